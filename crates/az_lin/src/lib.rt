@@ -1,0 +1,24 @@
+//! Exact affine rows, maps and polyhedra over whole numbers of at most 128 bits.
+//!
+//! `specs/Affine.antt` says what a row, a map and a domain mean at a point.
+#![tactic(auto)]
+
+mod conj;
+mod copy;
+mod domain;
+mod fault;
+mod limit;
+mod list;
+mod map;
+mod name;
+mod row;
+
+pub use conj::Conj;
+pub use copy::TryCopy;
+pub use domain::Domain;
+pub use fault::{LinFault, NoInverse};
+pub use limit::Limit;
+pub use list::List;
+pub use map::Map;
+pub use name::Name;
+pub use row::Row;

@@ -12,6 +12,7 @@ mod list;
 mod map;
 mod name;
 mod row;
+mod scalar;
 
 pub use conj::Conj;
 pub use copy::TryCopy;

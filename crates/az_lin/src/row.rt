@@ -1,10 +1,11 @@
 //! A row: the coefficients of an affine form by column, and its constant.
 
 ghost use Rattle.std.specs.Prelude.{◌≡◌, ◌^◌, ◌<◌, ◌≤◌, length, All, IsTrue, ◌↔◌, slice_get};
-ghost use Rattle.az_lin.specs.Affine.{Affine, IsEntry, HasEntries};
+ghost use Rattle.az_lin.specs.Affine.{Affine, IsEntry, IsCoordinate, HasEntries, value_at};
 ghost use Rattle.az_lin.specs.Answers.{IsExactly};
 
 use crate::LinFault;
+use crate::scalar::scalar_product;
 use smallvec::SmallVec;
 use std::alloc::Global;
 use std::marker::Model;
@@ -73,5 +74,18 @@ impl Row {
         ensures range { IsEntry result }
     {
         self.konst
+    }
+}
+
+impl Row {
+    /// The value at a point of the row's width. The width is at most 64 and the coordinates lie
+    /// within ±(2^40 - 1), so nothing overflows.
+    pub fn value(&self, z: &[i128]) -> i128
+        requires width { length z.now ≡ length self.now.coefs }
+        requires narrow { length z.now ≤ 64 }
+        requires range { All IsCoordinate z.now }
+        ensures { result ≡ value_at self.now z.now }
+    {
+        scalar_product(self.coefs.as_slice(), z) + self.konst
     }
 }

@@ -1,0 +1,37 @@
+-- Programs of one output over an interval, whose equation is one index expression.
+use Rattle.std.specs.Prelude.{◌≡◌, ℕ, ℤ, pos, negsuc, neg_ℤ, List, [], ◌∷◌}
+use Rattle.az_lin.specs.Affine.{Union}
+use Rattle.az_ast.specs.declared.expr.Expr.TheVariants.{Index}
+use Rattle.az_ast.specs.declared.program.Role.TheVariants.{Output}
+use Rattle.az_ast.specs.System.{System}
+
+-- the parameter domain without parameters
+abbrev pub no_parameters : Union
+no_parameters = record { width = 0; disjuncts = record { width = 0; rows = [] } ∷ [] }
+
+-- the integers from `low` to `high`
+abbrev pub interval : ℤ → ℤ → Union
+interval low high =
+    record {
+      width = 1;
+      disjuncts = record { width = 1; rows = record { coefs = pos 1 ∷ []; konst = neg_ℤ low } ∷ record { coefs = negsuc 0 ∷ []; konst = high } ∷ [] } ∷ [];
+    }
+
+-- `affine name {|} output x {i | low<=i<=high}; let x[i] = [a*i+b]; .`
+abbrev pub ramp : List ℕ → List ℕ → ℤ → ℤ → ℤ → ℤ → System
+ramp name x low high a b =
+    record {
+      name = name;
+      params = [];
+      pdom = no_parameters;
+      variables = record { name = x; role = Output; domain = interval low high } ∷ [];
+      equations = record { variable = 0; body = Index (record { coefs = a ∷ []; konst = b }) } ∷ [];
+    }
+
+pub record IsRamp (p : System) : Type 0 where
+  pub x : List ℕ
+  pub low : ℤ
+  pub high : ℤ
+  pub a : ℤ
+  pub b : ℤ
+  pub is : p ≡ ramp p.name x low high a b

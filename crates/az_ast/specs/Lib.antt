@@ -1,0 +1,9 @@
+pub mod Certified
+pub mod FirstForm
+pub mod Meaning
+pub mod Operators
+pub mod OutputRows
+pub mod Points
+pub mod System
+pub mod Tables
+pub mod Term

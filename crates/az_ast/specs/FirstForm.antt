@@ -1,8 +1,10 @@
 -- Programs of one output over an interval, whose equation is one index expression.
-use Rattle.std.specs.Prelude.{◌≡◌, ℕ, ℤ, pos, negsuc, neg_ℤ, List, [], ◌∷◌}
+use Rattle.std.specs.Prelude.{◌≡◌, ℕ, zero, suc, ℤ, pos, negsuc, neg_ℤ, ◌+ℤ◌, ◌*ℤ◌, List, [], ◌∷◌, ◌++◌}
 use Rattle.az_lin.specs.Affine.{Union}
 use Rattle.az_ast.specs.declared.expr.Expr.TheVariants.{Index}
 use Rattle.az_ast.specs.declared.program.Role.TheVariants.{Output}
+use Rattle.az_ast.specs.Operators.{wrapped}
+use Rattle.az_ast.specs.OutputRows.{row_of}
 use Rattle.az_ast.specs.System.{System}
 
 -- the parameter domain without parameters
@@ -35,3 +37,14 @@ pub record IsRamp (p : System) : Type 0 where
   pub a : ℤ
   pub b : ℤ
   pub is : p ≡ ramp p.name x low high a b
+
+-- the `count` points of one index from `low` on
+abbrev pub points_from : ℤ → ℕ → List (List ℤ)
+points_from low zero = []
+points_from low (suc count) = (low ∷ []) ∷ points_from (low +ℤ pos 1) count
+
+-- the lines of `x` at these points, where its value at `i` is `a*i+b`
+abbrev pub ramp_lines : List ℕ → ℤ → ℤ → ℤ → ℕ → List ℕ
+ramp_lines x a b low zero = []
+ramp_lines x a b low (suc count) =
+    row_of x (low ∷ []) (wrapped ((a *ℤ low) +ℤ b)) ++ ramp_lines x a b (low +ℤ pos 1) count

@@ -1,5 +1,5 @@
 -- What the program of the first form means, and its output rows.
-use Rattle.std.proofs.Common.{◌≡◌, ℕ, zero, suc, List, [], ◌∷◌, refl, sym, ap, subst, arith, append-nil}
+use Rattle.std.proofs.Common.{◌≡◌, ℕ, zero, suc, List, [], ◌∷◌, refl, sym, ap, subst, arith, append-nil, append_assoc, add-one, ◌++◌, ◌+◌, ◌∙◌}
 use Rattle.std.specs.Prelude.{ℤ, pos, negsuc, neg_ℤ, ◌+ℤ◌, ◌*ℤ◌, ◌≤ℤ◌, ◌<ℤ◌, Contains}
 use Rattle.std.specs.List.{AllByRecursion}
 use Rattle.az_ast.specs.Points.{Precedes, IsIncreasing, IsMember, AreMembers}
@@ -12,7 +12,7 @@ use Rattle.az_ast.proofs.Terms.{term-Index}
 use Rattle.az_ast.specs.Tables.{Tables}
 use Rattle.az_ast.specs.System.{System}
 use Rattle.az_ast.specs.Meaning.{Means}
-use Rattle.az_ast.specs.OutputRows.{ArePointRows, AreOutputRows}
+use Rattle.az_ast.specs.OutputRows.{row_of, ArePointRows, AreOutputRows}
 use Rattle.az_lin.specs.Affine.{Affine, Polyhedron, Holds, HoldsSome}
 use Rattle.az_ast.specs.FirstForm.{interval, ramp, points_from, ramp_lines}
 
@@ -124,3 +124,17 @@ module _ (name x : List ℕ) (low high a b : ℤ) (tables : Tables) where
 
   pub ramp-no_rows : high <ℤ low → AreOutputRows program tables [] []
   ramp-no_rows h = ([], [], record { points = []; members = no_points-members low high h; rows = refl }, refl, refl)
+
+-- one more line, at the end
+pub ramp_lines-suc : (x : List ℕ) (a b low : ℤ) (count : ℕ) → ramp_lines x a b low (suc count) ≡ ramp_lines x a b low count ++ row_of x ((low +ℤ pos count) ∷ []) (wrapped ((a *ℤ (low +ℤ pos count)) +ℤ b))
+ramp_lines-suc x a b low zero =
+    let e : low ≡ low +ℤ pos 0 = omega (arith, ints) in
+    append-nil (row_of x (low ∷ []) (wrapped ((a *ℤ low) +ℤ b))) ∙ ap (λ i. row_of x (i ∷ []) (wrapped ((a *ℤ i) +ℤ b))) e
+ramp_lines-suc x a b low (suc n) =
+    let e : (low +ℤ pos 1) +ℤ pos n ≡ low +ℤ pos (suc n) = omega (arith, ints) in
+    ap (λ l. row_of x (low ∷ []) (wrapped ((a *ℤ low) +ℤ b)) ++ l) (ramp_lines-suc x a b (low +ℤ pos 1) n)
+    ∙ (sym (append_assoc (row_of x (low ∷ []) (wrapped ((a *ℤ low) +ℤ b))) (ramp_lines x a b (low +ℤ pos 1) n) (row_of x (((low +ℤ pos 1) +ℤ pos n) ∷ []) (wrapped ((a *ℤ ((low +ℤ pos 1) +ℤ pos n)) +ℤ b))))
+    ∙ ap (λ i. (row_of x (low ∷ []) (wrapped ((a *ℤ low) +ℤ b)) ++ ramp_lines x a b (low +ℤ pos 1) n) ++ row_of x (i ∷ []) (wrapped ((a *ℤ i) +ℤ b))) e)
+
+pub ramp_lines-more : (x : List ℕ) (a b low : ℤ) (count : ℕ) → ramp_lines x a b low (count + 1) ≡ ramp_lines x a b low count ++ row_of x ((low +ℤ pos count) ∷ []) (wrapped ((a *ℤ (low +ℤ pos count)) +ℤ b))
+ramp_lines-more x a b low count = rw add-one (ramp_lines-suc x a b low count)

@@ -7,9 +7,11 @@
 mod desk;
 mod fault;
 mod honest;
+mod host;
 mod memory;
 
 pub use desk::{Desk, MOST_BYTES};
 pub use fault::DeskFault;
 pub use honest::HonestDesk;
+pub use host::HostDesk;
 pub use memory::{Failure, MemoryDesk};

@@ -15,3 +15,6 @@ pub use fault::DeskFault;
 pub use honest::HonestDesk;
 pub use host::HostDesk;
 pub use memory::{Failure, MemoryDesk};
+
+#[cfg(test)]
+mod tests;

@@ -1,0 +1,54 @@
+-- A desk in memory that fails at listed calls.
+use Rattle.std.specs.Prelude.{◌≡◌, ℕ, ◌+◌, ◌-◌, ◌^◌, ◌==◌, ◌||◌, min, List, ◌++◌, take, find, Bool, true, false}
+use Rattle.std.specs.Prelude.{Option, Some, None, option_map, is_some, is_none, Result, Ok, Err}
+use Rattle.az_desk.specs.Files.{Contents, file_of, with_file}
+use Rattle.az_desk.specs.declared.memory.Failure.{Failure}
+use Rattle.az_desk.specs.declared.fault.DeskFault.{DeskFault}
+use Rattle.az_desk.specs.declared.fault.DeskFault.TheVariants.{Failed, TooLong, Memory}
+
+-- what it holds, the failures that it was given, the number of the next call, and its count of faults
+pub record FailingDesk : Type 0 where
+  pub contents : Contents
+  pub failures : List Failure
+  pub calls : ℕ
+  pub faults : ℕ
+
+-- one more, up to the last of a u64
+abbrev pub next_count : ℕ → ℕ
+next_count n = min (n + 1) (2 ^ 64 - 1)
+
+-- how many bytes the next call keeps, where a failure is listed for it
+abbrev pub failure_of : FailingDesk → Option ℕ
+failure_of desk = option_map (λ failure. failure.kept) (find (λ failure. failure.call == desk.calls) desk.failures)
+
+-- the desk after a call that left these contents, and after one that also failed
+abbrev pub after_call : FailingDesk → Contents → FailingDesk
+after_call desk contents = record desk { contents = contents; calls = next_count desk.calls }
+
+abbrev pub after_failure : FailingDesk → Contents → FailingDesk
+after_failure desk contents = record (after_call desk contents) { faults = next_count desk.faults }
+
+-- A read fails at a listed call, and on a name that isn't there.
+abbrev pub is_to_fail : FailingDesk → List ℕ → Bool
+is_to_fail desk name = is_some (failure_of desk) || is_none (file_of desk.contents.files name)
+
+abbrev pub ReadsUnlessListed : FailingDesk → List ℕ → Result (List ℕ) DeskFault → FailingDesk → Type 0
+ReadsUnlessListed old name (Ok _) new = (is_to_fail old name ≡ false) × (new ≡ after_call old old.contents)
+ReadsUnlessListed old name (Err TooLong) new = (is_to_fail old name ≡ false) × (new ≡ after_call old old.contents)
+ReadsUnlessListed old name (Err Failed) new = (is_to_fail old name ≡ true) × (new ≡ after_failure old old.contents)
+ReadsUnlessListed old name (Err Memory) new = new ≡ after_call old old.contents
+
+-- A write or a say, which brings the contents by some bytes to what `bring` gives for them: at a listed call
+-- it fails and brings those that are kept, at another it brings all.
+abbrev pub BringsUnlessListed : FailingDesk → (List ℕ → Contents) → List ℕ → Result (Unit {0}) DeskFault → FailingDesk → Type 0
+BringsUnlessListed old bring bytes (Ok _) new = (failure_of old ≡ None) × (new ≡ after_call old (bring bytes))
+BringsUnlessListed old bring bytes (Err Failed) new =
+    (kept : ℕ) × (failure_of old ≡ Some kept) × (new ≡ after_failure old (bring (take kept bytes)))
+BringsUnlessListed old bring bytes (Err TooLong) new = ⊥
+BringsUnlessListed old bring bytes (Err Memory) new = new ≡ after_call old old.contents
+
+abbrev pub contents_with_file : Contents → List ℕ → List ℕ → Contents
+contents_with_file contents name bytes = record contents { files = with_file name bytes contents.files }
+
+abbrev pub contents_with_said : Contents → List ℕ → Contents
+contents_with_said contents bytes = record contents { said = contents.said ++ bytes }

@@ -1,0 +1,32 @@
+//! Why a call on a desk did not do what was asked.
+
+ghost use Rattle.std.specs.Prelude.{◌≡◌};
+ghost use Rattle.az_desk.specs.declared.fault.DeskFault.TheVariants.{Memory};
+
+use std::alloc::{AllocError, AllocFailed};
+
+#[derive(Debug, Clone, Copy, PartialEq, Eq)]
+pub enum DeskFault {
+    /// The desk failed, and its count of faults rose.
+    Failed,
+    /// The file has more than 2^24 bytes.
+    TooLong,
+    /// Memory ran out.
+    Memory,
+}
+
+impl From<AllocError> for DeskFault {
+    ghost from_gives = { λ _ e. e ≡ Memory };
+
+    fn from(_: AllocError) -> Self {
+        DeskFault::Memory
+    }
+}
+
+impl<T: Drop> From<AllocFailed<T>> for DeskFault {
+    ghost from_gives = { λ _ e. e ≡ Memory };
+
+    fn from(_: AllocFailed<T>) -> Self {
+        DeskFault::Memory
+    }
+}

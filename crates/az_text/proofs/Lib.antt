@@ -1,0 +1,11 @@
+pub mod Runs
+pub mod Classes
+pub mod Digits
+pub mod Marks
+pub mod Sorts
+pub mod Longest
+pub mod Sound
+pub mod Unique
+pub mod Walk
+pub mod Loop
+pub mod Given

@@ -1,0 +1,53 @@
+use Rattle.std.proofs.Common.{◌≡◌, ◌+◌, ◌<◌, ◌≤◌, ◌^◌, ◌∷◌, ◌++◌, length, drop, Ok, Err, is_ok, sym, ap, ◌∙◌, subst, arith}
+use Rattle.std.proofs.ResultArms.{chosen}
+use Rattle.az_text.specs.declared.fault.LexFault.TheVariants.{BadByte, WideNumber}
+use Rattle.az_text.specs.declared.front.Front.TheVariants.{Between, Cut, Wide, Nothing}
+use Rattle.az_text.specs.Fronts.{lexed, lexed_from, front_of}
+use Rattle.az_text.proofs.Loop.{between_on, cut_on, wide_here, nothing_here, lexed-past_end, and_all-end}
+use Rattle.az_text.proofs.Walk.{and_all}
+use Rattle.az_text.proofs.lexer.tokens_of.Goals as goal
+
+pub overflow_add-from : goal.overflow_add-from
+overflow_add-from c =
+    let on = between_on c.loop-from.from c.args.text.now c.loop-from.tokens.items (lexed_from 0 0 c.args.text.now) c.in_ok-len.field-0 c.loop-from-test.true c.in_ok-len.ensures.ok c.loop-from.invariant.1 c.in-Between.len c.in-Between.is in
+    omega (arith, on.1)
+
+pub loop-from-smaller-in-Between : goal.loop-from-smaller-in-Between
+loop-from-smaller-in-Between c =
+    let on = between_on c.loop-from.from c.args.text.now c.loop-from.tokens.items (lexed_from 0 0 c.args.text.now) c.in_ok-len.field-0 c.loop-from-test.true c.in_ok-len.ensures.ok c.loop-from.invariant.1 c.in-Between.len c.in-Between.is in
+    omega (arith, on.0, on.1)
+
+pub loop-from-preserved-in-Between : goal.loop-from-preserved-in-Between
+loop-from-preserved-in-Between c =
+    let on = between_on c.loop-from.from c.args.text.now c.loop-from.tokens.items (lexed_from 0 0 c.args.text.now) c.in_ok-len.field-0 c.loop-from-test.true c.in_ok-len.ensures.ok c.loop-from.invariant.1 c.in-Between.len c.in-Between.is in
+    (on.1, on.2)
+
+pub overflow_add-to : goal.overflow_add-to
+overflow_add-to c =
+    let on = cut_on c.loop-from.from c.args.text.now c.loop-from.tokens.items (lexed_from 0 0 c.args.text.now) c.in_ok-len.field-0 c.loop-from-test.true c.in_ok-len.ensures.ok c.loop-from.invariant.1 c.in-Cut.kind c.in-Cut.len c.in-Cut.is in
+    omega (arith, on.1)
+
+pub loop-from-smaller : goal.loop-from-smaller
+loop-from-smaller c =
+    let on = cut_on c.loop-from.from c.args.text.now c.loop-from.tokens.items (lexed_from 0 0 c.args.text.now) c.in_ok-len.field-0 c.loop-from-test.true c.in_ok-len.ensures.ok c.loop-from.invariant.1 c.in-Cut.kind c.in-Cut.len c.in-Cut.is in
+    omega (arith, on.0, on.1)
+
+pub loop-from-preserved : goal.loop-from-preserved
+loop-from-preserved c =
+    let on = cut_on c.loop-from.from c.args.text.now c.loop-from.tokens.items (lexed_from 0 0 c.args.text.now) c.in_ok-len.field-0 c.loop-from-test.true c.in_ok-len.ensures.ok c.loop-from.invariant.1 c.in-Cut.kind c.in-Cut.len c.in-Cut.is in
+    let pushed = chosen _ _ _ _ c.push.ensures.items (ap is_ok c.in_ok-push-in-Cut.was) in
+    (on.1, ap (λ l. and_all l (lexed_from (c.loop-from.from + c.in-Cut.len) 0 (drop (c.loop-from.from + c.in-Cut.len) c.args.text.now))) pushed ∙ on.2)
+
+pub returns-in-Wide : goal.returns-in-Wide
+unfolding lexed
+returns-in-Wide c = wide_here c.loop-from.from c.args.text.now c.loop-from.tokens.items (lexed_from 0 0 c.args.text.now) c.in_ok-len.field-0 c.loop-from-test.true c.in_ok-len.ensures.ok c.loop-from.invariant.1 c.in-Wide.is
+
+pub returns-in-Nothing : goal.returns-in-Nothing
+unfolding lexed
+returns-in-Nothing c = nothing_here c.loop-from.from c.args.text.now c.loop-from.tokens.items (lexed_from 0 0 c.args.text.now) c.in_ok-len.field-0 c.loop-from-test.true c.in_ok-len.ensures.ok c.loop-from.invariant.1 c.in-Nothing.is
+
+pub returns : goal.returns
+unfolding lexed
+returns c =
+    let over = lexed-past_end c.loop-from.from c.args.text.now c.loop-from-test.false in
+    ap Ok c.from_vec.ensures ∙ sym (and_all-end c.loop-from.tokens.items) ∙ ap (and_all c.loop-from.tokens.items) (sym over) ∙ c.loop-from.invariant.1

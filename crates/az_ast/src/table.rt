@@ -1,9 +1,13 @@
 //! A table: the value of a variable at each of some points.
 
-ghost use Rattle.std.specs.Prelude.{◌≡◌, ℤ, MatchOption};
+ghost use Rattle.std.specs.Prelude.{◌≡◌, ℤ, MatchOption, length};
+ghost use Rattle.std.specs.List.Sorted.{IsBinarySearchResult, IsSearchInRange};
+ghost use Rattle.std.specs.Ordering.{int_cmp};
+ghost use Rattle.std.specs.Cmp.Lexicographic.{slice_cmp};
 ghost use Rattle.az_ast.specs.Tables.{IsTable, TableGives};
 
 use az_lin::List;
+use std::cmp::Ordering;
 use std::marker::Model;
 
 /// Rows of a point and its value, in strictly increasing order of the points.
@@ -25,6 +29,20 @@ impl Model for Table {
     ghost invariant = { λ table. IsTable table.rows };
 }
 
+/// Where the point's row stands, or would stand.
+fn place_of(rows: &[(List<i128>, i64)], point: &[i128]) -> Result<usize, usize>
+    ensures bound { IsSearchInRange result (length rows.now) }
+    ensures place { IsBinarySearchResult (λ row. slice_cmp int_cmp row.0 point.now) rows.now result }
+{
+    rows.binary_search_by(|row| compare(row, point))
+}
+
+fn compare(row: &(List<i128>, i64), point: &[i128]) -> Ordering
+    ensures { result ≡ slice_cmp int_cmp row.now.0 point.now }
+{
+    row.0.as_slice().cmp(point)
+}
+
 impl Table {
     pub fn new(rows: List<(List<i128>, i64)>) -> Table
         requires { IsTable rows }
@@ -38,5 +56,16 @@ impl Table {
         ensures increasing { IsTable result.now }
     {
         self.rows.as_slice()
+    }
+
+    /// The value at the point, found by halving.
+    pub fn value(&self, point: &[i128]) -> Option<i64>
+        ensures { MatchOption result ((v : ℤ) → TableGives self.now point.now v → ⊥) (λ v. TableGives self.now point.now v) }
+    {
+        let rows = self.rows.as_slice();
+        match place_of(rows, point) {
+            Ok(place) => Some(rows[place].1),
+            Err(_) => None,
+        }
     }
 }

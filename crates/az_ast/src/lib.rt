@@ -14,7 +14,7 @@ mod table;
 pub use expr::{Branch, Expr};
 pub use fault::{ShapeFault, ShapeKind};
 pub use inputs::{Inputs, Values};
-pub use op::Op;
+pub use op::{Op, apply_op, identity_of, wrap};
 pub use program::{Equation, Program, Role, Variable};
 pub use reason::Reason;
 pub use table::Table;

@@ -1,2 +1,4 @@
+pub mod MapLemmas
 pub mod Ramp
+pub mod TableLemmas
 pub mod Terms

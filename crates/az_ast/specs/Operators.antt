@@ -1,7 +1,7 @@
 -- The operators on 64-bit two's complement words. A value is the whole number that its word stands
 -- for. Sum, difference and product are those of whole numbers, brought back modulo 2^64; the bitwise
 -- operators work on the words bit by bit; the greater and the smaller are those of whole numbers.
-use Rattle.std.specs.Prelude.{ℕ, ◌-◌, ◌^◌, ℤ, pos, negsuc, ◌+ℤ◌, ◌-ℤ◌, ◌*ℤ◌, bit_and, bit_or, bit_xor}
+use Rattle.std.specs.Prelude.{◌≡◌, ℕ, ◌-◌, ◌^◌, ℤ, pos, negsuc, ◌+ℤ◌, ◌-ℤ◌, ◌*ℤ◌, bit_and, bit_or, bit_xor}
 use Rattle.std.specs.Int.{w64, int_wrap, cast_signed, cast_unsigned, int_max, int_min}
 use Rattle.az_ast.specs.declared.op.Op.{Op}
 use Rattle.az_ast.specs.declared.op.Op.TheVariants.{Add, Sub, Mul, And, Or, Xor, Max, Min}
@@ -23,8 +23,11 @@ applied Xor a b = bitwise bit_xor a b
 applied Max a b = int_max a b
 applied Min a b = int_min a b
 
--- the value of a reduction over no points: what changes no other operand. A difference is no
--- operator of a reduction.
+-- a difference is no operator of a reduction
+abbrev pub FoldsFromIdentity : Op → Type 0
+FoldsFromIdentity op = op ≡ Sub → ⊥
+
+-- the value of a reduction over no points: what changes no other operand
 abbrev pub identity : Op → ℤ
 identity Add = pos 0
 identity Sub = pos 0

@@ -5,10 +5,16 @@
 
 mod expr;
 mod fault;
+mod inputs;
 mod op;
 mod program;
+mod reason;
+mod table;
 
 pub use expr::{Branch, Expr};
 pub use fault::{ShapeFault, ShapeKind};
-pub use op::Op;
+pub use inputs::{Inputs, Values};
+pub use op::{Op, apply_op, identity_of, wrap};
 pub use program::{Equation, Program, Role, Variable};
+pub use reason::Reason;
+pub use table::Table;

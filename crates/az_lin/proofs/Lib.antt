@@ -1,2 +1,5 @@
 pub mod Magnitude
 pub mod Dot
+pub mod Integers
+pub mod DivisorLaws
+pub mod WideSums

@@ -1,2 +1,3 @@
 pub mod Magnitude
 pub mod Dot
+pub mod Substitution

@@ -1,2 +1,3 @@
 pub mod Affine
 pub mod Answers
+pub mod Substitution

@@ -3,6 +3,7 @@
 //! `specs/Affine.antt` says what a row, a map and a domain mean at a point.
 #![tactic(auto)]
 
+mod combination;
 mod conj;
 mod copy;
 mod domain;

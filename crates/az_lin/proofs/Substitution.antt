@@ -1,0 +1,73 @@
+-- What shifting and composing do to the value of a row.
+use Rattle.std.proofs.Common.{◌≡◌, ℕ, ◌+◌, ◌*◌, ◌<◌, arith, ℤ, pos, ◌+ℤ◌, ◌*ℤ◌, ◌-ℤ◌, List, [], ◌∷◌, length, get_or, map, All, ap, refl, sym}
+use Rattle.std.specs.List.{range_with_len}
+use Rattle.std.proofs.lemmas.Int.{ints}
+use borrow.Author.Differences.{up, down, sum_is_lem, product_is, neg_is}
+use lib.IntN.{neg_ℤ}
+use Rattle.std.proofs.lemmas.List.FromFn.{fill_by_all}
+use Rattle.std.proofs.lemmas.List.Elements.{All-head, All-tail}
+use Rattle.az_lin.specs.Affine.{Affine, AffineMap, HasWidth, dot, value_at, image_of}
+use Rattle.az_lin.specs.Substitution.{less, shifted, column, constants, composed}
+
+mul_sum : (c x v : ℤ) → c *ℤ (x +ℤ v) ≡ (c *ℤ x) +ℤ (c *ℤ v)
+mul_sum c x v = omega (arith, ints, ap (λ n. up c * n) (sum_is_lem x v), ap (λ n. down c * n) (sum_is_lem x v))
+
+mul_neg : (c v : ℤ) → c *ℤ neg_ℤ v ≡ neg_ℤ (c *ℤ v)
+mul_neg c v = omega (arith, ints, ap (λ n. up c * n) (neg_is v).0, ap (λ n. down c * n) (neg_is v).0, ap (λ n. up c * n) (neg_is v).1, ap (λ n. down c * n) (neg_is v).1)
+
+mul_assoc : (a b c : ℤ) → (a *ℤ b) *ℤ c ≡ a *ℤ (b *ℤ c)
+mul_assoc a b c = omega (arith, ints,
+  ap (λ n. n * up c) (product_is a b).0, ap (λ n. n * down c) (product_is a b).0,
+  ap (λ n. n * up c) (product_is a b).1, ap (λ n. n * down c) (product_is a b).1,
+  ap (λ n. up a * n) (product_is b c).0, ap (λ n. down a * n) (product_is b c).0,
+  ap (λ n. up a * n) (product_is b c).1, ap (λ n. down a * n) (product_is b c).1)
+
+mul_comm : (a b : ℤ) → a *ℤ b ≡ b *ℤ a
+mul_comm a b = omega (arith, ints)
+
+sum_mul : (x v c : ℤ) → (x +ℤ v) *ℤ c ≡ (x *ℤ c) +ℤ (v *ℤ c)
+sum_mul x v c = omega (arith, ints, mul_comm (x +ℤ v) c, mul_sum c x v)
+
+mul_less : (c x v : ℤ) → c *ℤ (x -ℤ v) ≡ (c *ℤ x) -ℤ (c *ℤ v)
+mul_less c x v = omega (arith, ints, mul_sum c x (neg_ℤ v), mul_neg c v)
+
+pub dot-less : (cs zs vs : List ℤ) → length zs ≡ length vs → dot cs (less zs vs) ≡ dot cs zs -ℤ dot cs vs
+dot-less [] zs vs same = refl
+dot-less (c ∷ cs) [] [] same = refl
+dot-less (c ∷ cs) [] (v ∷ vs) same = absurd (omega arith)
+dot-less (c ∷ cs) (z ∷ zs) [] same = absurd (omega arith)
+dot-less (c ∷ cs) (z ∷ zs) (v ∷ vs) same = omega (arith, ints, mul_less c z v, dot-less cs zs vs (omega arith))
+
+pub value_at-shifted : (row : Affine) (z v : List ℤ) → length z ≡ length v → value_at (shifted row v) z ≡ value_at row (less z v)
+value_at-shifted row z v same = omega (arith, ints, dot-less row.coefs z v same)
+
+dot-zeros : (js : List ℕ) (z : List ℤ) → dot (map (λ j. pos 0) js) z ≡ pos 0
+dot-zeros [] z = refl
+dot-zeros (j ∷ js) [] = refl
+dot-zeros (j ∷ js) (x ∷ z) = omega (arith, ints, dot-zeros js z)
+
+-- the product of a sum of multiples is the sum of the multiples of products
+dot-linear : (c : ℤ) (g h : ℕ → ℤ) (js : List ℕ) (z : List ℤ)
+    → dot (map (λ j. (c *ℤ g j) +ℤ h j) js) z ≡ (c *ℤ dot (map g js) z) +ℤ dot (map h js) z
+dot-linear c g h [] z = omega (arith, ints)
+dot-linear c g h (j ∷ js) [] = omega (arith, ints)
+dot-linear c g h (j ∷ js) (x ∷ z) =
+    omega (arith, ints, dot-linear c g h js z, mul_sum c (g j *ℤ x) (dot (map g js) z), sum_mul (c *ℤ g j) (h j) x, mul_assoc c (g j) x)
+
+-- a row's coefficients, column by column
+coefs-columns : (row : Affine) (width : ℕ) → HasWidth width row → map (λ j. get_or row.coefs j (pos 0)) (range_with_len 0 width) ≡ row.coefs
+coefs-columns row width wide = sym (fill_by_all (λ j. get_or row.coefs j (pos 0)) row.coefs width (pos 0) wide (λ k h. refl))
+
+dot-composed : (cs : List ℤ) (rows : List Affine) (width : ℕ) (z : List ℤ) → All (HasWidth width) rows
+    → dot (map (λ j. dot cs (column j rows)) (range_with_len 0 width)) z +ℤ dot cs (constants rows) ≡ dot cs (map (λ row. value_at row z) rows)
+dot-composed [] rows width z wide = rw (dot-zeros (range_with_len 0 width) z) refl
+dot-composed (c ∷ cs) [] width z wide = rw (dot-zeros (range_with_len 0 width) z) refl
+dot-composed (c ∷ cs) (row ∷ rows) width z wide =
+    omega (arith, ints,
+      dot-linear c (λ j. get_or row.coefs j (pos 0)) (λ j. dot cs (column j rows)) (range_with_len 0 width) z,
+      ap (λ coefs. c *ℤ dot coefs z) (coefs-columns row width (All-head (HasWidth width) row rows wide)),
+      mul_sum c (dot row.coefs z) row.konst,
+      dot-composed cs rows width z (All-tail (HasWidth width) row rows wide))
+
+pub value_at-composed : (row : Affine) (f : AffineMap) (z : List ℤ) → All (HasWidth f.width) f.rows → value_at (composed row f) z ≡ value_at row (image_of f z)
+value_at-composed row f z wide = omega (arith, ints, dot-composed row.coefs f.rows f.width z wide)

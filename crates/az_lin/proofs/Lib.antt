@@ -1,3 +1,4 @@
 pub mod Magnitude
 pub mod Dot
 pub mod Substitution
+pub mod Exactly

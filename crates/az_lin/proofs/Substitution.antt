@@ -1,5 +1,5 @@
 -- What shifting and composing do to the value of a row.
-use Rattle.std.proofs.Common.{◌≡◌, ℕ, ◌+◌, ◌*◌, ◌<◌, arith, ℤ, pos, ◌+ℤ◌, ◌*ℤ◌, ◌-ℤ◌, List, [], ◌∷◌, length, get_or, map, All, ap, refl, sym}
+use Rattle.std.proofs.Common.{◌≡◌, ℕ, ◌+◌, ◌*◌, ◌<◌, arith, ℤ, pos, ◌+ℤ◌, ◌*ℤ◌, ◌-ℤ◌, List, [], ◌∷◌, length, get_or, map, All, ap, refl, sym, ◌∙◌}
 use Rattle.std.specs.List.{range_with_len}
 use Rattle.std.proofs.lemmas.Int.{ints}
 use borrow.Author.Differences.{up, down, sum_is_lem, product_is, neg_is}
@@ -7,7 +7,7 @@ use lib.IntN.{neg_ℤ}
 use Rattle.std.proofs.lemmas.List.FromFn.{fill_by_all}
 use Rattle.std.proofs.lemmas.List.Elements.{All-head, All-tail}
 use Rattle.az_lin.specs.Affine.{Affine, AffineMap, HasWidth, dot, value_at, image_of}
-use Rattle.az_lin.specs.Substitution.{less, shifted, column, constants, composed}
+use Rattle.az_lin.specs.Substitution.{less, shifted, column, constants, composed, composed_map}
 
 mul_sum : (c x v : ℤ) → c *ℤ (x +ℤ v) ≡ (c *ℤ x) +ℤ (c *ℤ v)
 mul_sum c x v = omega (arith, ints, ap (λ n. up c * n) (sum_is_lem x v), ap (λ n. down c * n) (sum_is_lem x v))
@@ -71,3 +71,17 @@ dot-composed (c ∷ cs) (row ∷ rows) width z wide =
 
 pub value_at-composed : (row : Affine) (f : AffineMap) (z : List ℤ) → All (HasWidth f.width) f.rows → value_at (composed row f) z ≡ value_at row (image_of f z)
 value_at-composed row f z wide = omega (arith, ints, dot-composed row.coefs f.rows f.width z wide)
+
+images : (rows : List Affine) (f : AffineMap) (z : List ℤ) → All (HasWidth f.width) f.rows
+    → map (λ row. value_at row z) (map (λ row. composed row f) rows) ≡ map (λ row. value_at row (image_of f z)) rows
+images [] f z wide = refl
+images (row ∷ rows) f z wide = rw (images rows f z wide) (ap (λ x. x ∷ map (λ r. value_at r (image_of f z)) rows) (value_at-composed row f z wide))
+
+pub row_is : (row : Affine) (coefs : List ℤ) (konst : ℤ) → coefs ≡ row.coefs → konst ≡ row.konst → record { coefs = coefs; konst = konst } ≡ row
+row_is row coefs konst same same' =
+    let with_coefs : List ℤ → Affine = λ xs. record { coefs = xs; konst = konst } in
+    let with_konst : ℤ → Affine = λ k. record { coefs = row.coefs; konst = k } in
+    ap with_coefs same ∙ ap with_konst same'
+
+pub image_of-composed : (g f : AffineMap) (z : List ℤ) → All (HasWidth f.width) f.rows → image_of (composed_map g f) z ≡ image_of g (image_of f z)
+image_of-composed g f z wide = images g.rows f z wide

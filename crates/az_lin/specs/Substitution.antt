@@ -6,6 +6,9 @@ use Rattle.az_lin.specs.Affine.{Affine, AffineMap, HasEntries, dot}
 use Rattle.az_lin.specs.declared.combination.Place.{Place}
 use Rattle.az_lin.specs.declared.combination.Place.TheVariants.{Column, Constant}
 
+abbrev pub Point : Type 0
+Point = List ℤ
+
 -- a point less a vector, coordinate by coordinate
 abbrev pub less : List ℤ → List ℤ → List ℤ
 less [] vs = []

@@ -1,9 +1,9 @@
 //! An affine map: for each coordinate of the image, the row that gives it.
 
-ghost use Rattle.std.specs.Prelude.{◌≡◌, ◌≤◌, List, ℤ, length, All, IfOk};
+ghost use Rattle.std.specs.Prelude.{◌≡◌, ◌≤◌, length, All, IfOk};
 ghost use Rattle.az_lin.specs.Affine.{AffineMap, HasWidth, HasEntries, IsCoordinate, image_of};
 ghost use Rattle.az_lin.specs.Answers.{IsExactly};
-ghost use Rattle.az_lin.specs.Substitution.{HasEntryRows, composed_map};
+ghost use Rattle.az_lin.specs.Substitution.{Point, HasEntryRows, composed_map};
 
 use crate::{LinFault, List, Row, TryCopy};
 use std::alloc::Global;
@@ -66,14 +66,14 @@ impl Map {
         requires rows { length f.now.rows ≡ self.now.width }
         requires narrow { self.now.width ≤ 64 }
         ensures exact { IsExactly HasEntryRows (composed_map self.now f.now) result }
-        ensures meaning { (z : List ℤ) → IfOk result (λ map. image_of map z ≡ image_of self.now (image_of f.now z)) }
+        ensures meaning { (z : Point) → IfOk result (λ map. image_of map z ≡ image_of self.now (image_of f.now z)) }
     {
         let own = self.rows();
         let mut rows = Vec::with_capacity(alloc, own.len())?;
         'rows: for row in own {
             rows.push(row.compose(alloc, f)?)?;
         }
-        Ok(Map::new(f.width(), List::from_vec(rows)))
+        Ok(Map::new(f.width, List::from_vec(rows)))
     }
 }
 

@@ -1,9 +1,9 @@
 //! A row: the coefficients of an affine form by column, and its constant.
 
-ghost use Rattle.std.specs.Prelude.{◌≡◌, ◌^◌, ◌<◌, ◌≤◌, length, List, ℤ, All, IsTrue, ◌↔◌, IfOk, IfErr, slice_get};
+ghost use Rattle.std.specs.Prelude.{◌≡◌, ◌^◌, ◌<◌, ◌≤◌, length, All, IsTrue, ◌↔◌, IfOk, IfErr, slice_get};
 ghost use Rattle.az_lin.specs.Affine.{Affine, IsEntry, IsCoordinate, HasEntries, value_at, image_of};
 ghost use Rattle.az_lin.specs.Answers.{IsExactly};
-ghost use Rattle.az_lin.specs.Substitution.{less, shifted, composed};
+ghost use Rattle.az_lin.specs.Substitution.{Point, less, shifted, composed};
 ghost use Rattle.az_lin.specs.declared.fault.LinFault.TheVariants.{Memory};
 
 use crate::combination::{Place, combine};
@@ -110,7 +110,7 @@ impl Row {
         requires narrow { length v.now ≤ 64 }
         requires range { All IsEntry v.now }
         ensures exact { IsExactly HasEntries (shifted self.now v.now) result }
-        ensures meaning { (z : List ℤ) → length z ≡ length v.now → IfOk result (λ row. value_at row z ≡ value_at self.now (less z v.now)) }
+        ensures meaning { (z : Point) → length z ≡ length v.now → IfOk result (λ row. value_at row z ≡ value_at self.now (less z v.now)) }
     {
         let konst = self.konst - scalar_product(self.coefs.as_slice(), v);
         Row::new(alloc, self.coefs.as_slice(), konst)
@@ -121,7 +121,7 @@ impl Row {
         requires rows { length f.now.rows ≡ length self.now.coefs }
         requires narrow { length self.now.coefs ≤ 64 }
         ensures exact { IsExactly HasEntries (composed self.now f.now) result }
-        ensures meaning { (z : List ℤ) → IfOk result (λ row. value_at row z ≡ value_at self.now (image_of f.now z)) }
+        ensures meaning { (z : Point) → IfOk result (λ row. value_at row z ≡ value_at self.now (image_of f.now z)) }
     {
         let width = f.width();
         let mut coefs = SmallVec::new(alloc);

@@ -30,8 +30,8 @@ rows-preserved c =
     let p = All-get_or IsEntry c.args.weights.now c.rows.number (pos 0) c.rows-test.true c.requires.range in
     let q = c.entry.ensures.range in
     let same : get_or (entries c.args.place c.args.rows.now) c.rows.number (pos 0) ≡ y =
-      get_or-map (entry_at c.args.place) c.args.rows.now c.rows.number c.index-rows-number.result (pos 0) here
-      ∙ ap (entry_at c.args.place) (sym c.index-rows-number.is) ∙ sym c.entry.ensures.value in
+    get_or-map (entry_at c.args.place) c.args.rows.now c.rows.number c.index-rows-number.result (pos 0) here
+    ∙ ap (entry_at c.args.place) (sym c.index-rows-number.is) ∙ sym c.entry.ensures.value in
     let sum_is = word_sum_is c.rows.number sum x y (omega arith) c.rows.invariant.small p q in
     record {
       whole = rw (sum_is, ← same) (dot-step c.args.weights.now (entries c.args.place c.args.rows.now) c.rows.number sum _ c.rows-test.true there c.rows.invariant.whole);

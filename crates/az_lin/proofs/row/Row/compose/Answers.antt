@@ -28,7 +28,7 @@ exact c =
     let coefs : c.columns.coefs.items ≡ (composed c.args.self.now c.args.f.now).coefs = c.columns.invariant ∙ ap (λ n. map (λ j. dot c.args.self.now.coefs (column j c.args.f.now.rows)) (range_with_len 0 n)) full in
     let value : c.combine-konst.result ≡ dot c.args.self.now.coefs (constants c.args.f.now.rows) = cc in
     let konst : to_z w128 (of_z w128 (to_z w128 (of_z w128 c.combine-konst.result) +ℤ to_z w128 (of_z w128 c.konst.result))) ≡ (composed c.args.self.now c.args.f.now).konst =
-      omega (arith, ints) in
+    omega (arith, ints) in
     subst (λ row. IsExactly HasEntries row c.checked.result) (row_is _ _ _ coefs konst) c.checked.ensures
 
 pub returns-clause-exact : goal.returns-clause-exact
@@ -37,5 +37,5 @@ returns-clause-exact c = exact c
 pub returns-clause-meaning : goal.returns-clause-meaning
 returns-clause-meaning c = λ z.
     ok_from_exactly HasEntries (composed c.args.self.now c.args.f.now) (λ row. value_at row z ≡ value_at c.args.self.now (image_of c.args.f.now z)) c.checked.result
-      (exact c) (value_at-composed c.args.self.now c.args.f.now z
-        (All-same (HasWidth c.args.f.now.width) c.args.f.now.rows c.rows-2.result.now (sym c.rows-2.ensures.value) c.rows-2.ensures.widths))
+    (exact c) (value_at-composed c.args.self.now c.args.f.now z
+    (All-same (HasWidth c.args.f.now.width) c.args.f.now.rows c.rows-2.result.now (sym c.rows-2.ensures.value) c.rows-2.ensures.widths))

@@ -3,3 +3,5 @@ pub mod Dot
 pub mod Integers
 pub mod DivisorLaws
 pub mod WideSums
+pub mod Substitution
+pub mod Exactly

@@ -4,3 +4,4 @@ pub mod CommonDivisor
 pub mod Combination
 pub mod Derivation
 pub mod RationalPoint
+pub mod Substitution

@@ -3,7 +3,8 @@
 ghost use Rattle.std.specs.Prelude.{◌≡◌, All};
 ghost use Rattle.az_lin.specs.Affine.{Polyhedron, HasWidth};
 
-use crate::{List, Row};
+use crate::{LinFault, List, Row, TryCopy};
+use std::alloc::Global;
 use std::marker::Model;
 
 #[derive(Debug, Drop)]
@@ -42,5 +43,15 @@ impl Conj {
         ensures widths { All (HasWidth self.now.width) result.now }
     {
         self.rows.as_slice()
+    }
+}
+
+impl TryCopy for Conj {
+    fn copy(&self, alloc: Global) -> Result<Self, LinFault> {
+        let rows = self.rows.copy(alloc)?;
+        Ok(Conj {
+            width: self.width,
+            rows,
+        })
     }
 }

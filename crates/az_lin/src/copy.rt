@@ -12,3 +12,10 @@ pub trait TryCopy: Sized {
         ensures ok { IfOk result (λ copied. copied ≡ self.now) }
         ensures cause { IfErr result (λ fault. fault ≡ Memory) };
 }
+
+impl TryCopy for i128 {
+    fn copy(&self, alloc: Global) -> Result<Self, LinFault> {
+        let _ = alloc;
+        Ok(*self)
+    }
+}

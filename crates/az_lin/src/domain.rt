@@ -4,7 +4,7 @@ ghost use Rattle.std.specs.Prelude.{◌≡◌, ◌<◌, [], ◌∷◌, All, leng
 ghost use Rattle.az_lin.specs.Affine.{Union, IsOver};
 ghost use Rattle.az_lin.specs.declared.fault.LinFault.TheVariants.{Memory};
 
-use crate::{Conj, LinFault, List};
+use crate::{Conj, LinFault, List, TryCopy};
 use std::alloc::Global;
 use std::marker::Model;
 
@@ -60,5 +60,15 @@ impl Domain {
         ensures widths { All (IsOver self.now.width) result.now }
     {
         self.disjuncts.as_slice()
+    }
+}
+
+impl TryCopy for Domain {
+    fn copy(&self, alloc: Global) -> Result<Self, LinFault> {
+        let disjuncts = self.disjuncts.copy(alloc)?;
+        Ok(Domain {
+            width: self.width,
+            disjuncts,
+        })
     }
 }

@@ -4,6 +4,7 @@
 #![tactic(auto)]
 
 mod common_divisor;
+mod combination;
 mod conj;
 mod copy;
 mod domain;

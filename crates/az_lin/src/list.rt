@@ -4,7 +4,7 @@ ghost use Rattle.std.specs.Prelude.{◌≡◌, ◌∷◌, ◌++◌, [], length, 
 ghost use Rattle.std.specs.Option.{option_copied};
 ghost use Rattle.az_lin.specs.declared.fault.LinFault.TheVariants.{Memory};
 
-use crate::LinFault;
+use crate::{LinFault, TryCopy};
 use std::alloc::Global;
 use std::marker::Model;
 
@@ -81,5 +81,15 @@ impl<T: Drop> List<T> {
     {
         self.items.push(item)?;
         Ok(())
+    }
+}
+
+impl<T: TryCopy + Drop> TryCopy for List<T> {
+    fn copy(&self, alloc: Global) -> Result<Self, LinFault> {
+        let mut items = Vec::with_capacity(alloc, self.len())?;
+        'items: for item in self.as_slice() {
+            items.push(item.copy(alloc)?)?;
+        }
+        Ok(List { items })
     }
 }

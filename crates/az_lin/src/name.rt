@@ -3,7 +3,7 @@
 ghost use Rattle.std.specs.Prelude.{◌≡◌, IfOk, IfErr};
 ghost use Rattle.az_lin.specs.declared.fault.LinFault.TheVariants.{Memory};
 
-use crate::LinFault;
+use crate::{LinFault, TryCopy};
 use std::alloc::Global;
 use std::marker::Model;
 
@@ -33,5 +33,11 @@ impl Name {
         ensures { result.now ≡ self.now }
     {
         self.text.as_str()
+    }
+}
+
+impl TryCopy for Name {
+    fn copy(&self, alloc: Global) -> Result<Self, LinFault> {
+        Name::from_str(alloc, self.as_str())
     }
 }

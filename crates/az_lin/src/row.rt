@@ -1,11 +1,14 @@
 //! A row: the coefficients of an affine form by column, and its constant.
 
-ghost use Rattle.std.specs.Prelude.{◌≡◌, ◌^◌, ◌<◌, ◌≤◌, length, All, IsTrue, ◌↔◌, slice_get};
-ghost use Rattle.az_lin.specs.Affine.{Affine, IsEntry, IsCoordinate, HasEntries, value_at};
+ghost use Rattle.std.specs.Prelude.{◌≡◌, ◌^◌, ◌<◌, ◌≤◌, length, All, IsTrue, ◌↔◌, IfOk, IfErr, slice_get};
+ghost use Rattle.az_lin.specs.Affine.{Affine, IsEntry, IsCoordinate, HasEntries, value_at, image_of};
 ghost use Rattle.az_lin.specs.Answers.{IsExactly};
+ghost use Rattle.az_lin.specs.Substitution.{Point, less, shifted, composed};
+ghost use Rattle.az_lin.specs.declared.fault.LinFault.TheVariants.{Memory};
 
-use crate::LinFault;
+use crate::combination::{Place, combine};
 use crate::scalar::scalar_product;
+use crate::{LinFault, Map, TryCopy};
 use smallvec::SmallVec;
 use std::alloc::Global;
 use std::marker::Model;
@@ -36,15 +39,27 @@ fn is_entry(number: i128) -> bool
     -MOST_ENTRY <= number && number <= MOST_ENTRY
 }
 
+/// Whether a row may have these coefficients and this constant.
+fn are_entries(coefs: &[i128], konst: i128) -> bool
+    ensures { IsTrue result ↔ HasEntries (record { coefs = coefs.now; konst = konst }) }
+{
+    is_entry(konst) && coefs.iter().all(|coef| is_entry(*coef))
+}
+
 impl Row {
     /// `Entry` exactly where a number lies outside ±(2^60 - 1).
     pub fn new(alloc: Global, coefs: &[i128], konst: i128) -> Result<Row, LinFault>
         ensures { IsExactly HasEntries (record { coefs = coefs.now; konst = konst }) result }
     {
-        if !is_entry(konst) || !coefs.iter().all(|coef| is_entry(*coef)) {
+        Row::checked(SmallVec::from_slice(alloc, coefs)?, konst)
+    }
+
+    fn checked(coefs: SmallVec<i128, 8>, konst: i128) -> Result<Row, LinFault>
+        ensures { IsExactly HasEntries (record { coefs = coefs.items; konst = konst }) result }
+    {
+        if !are_entries(coefs.as_slice(), konst) {
             return Err(LinFault::Entry);
         }
-        let coefs = SmallVec::from_slice(alloc, coefs)?;
         Ok(Row { coefs, konst })
     }
 
@@ -87,5 +102,44 @@ impl Row {
         ensures { result ≡ value_at self.now z.now }
     {
         scalar_product(self.coefs.as_slice(), z) + self.konst
+    }
+
+    /// The row whose value at `z` is the old one at `z - v`.
+    pub fn shift(&self, alloc: Global, v: &[i128]) -> Result<Row, LinFault>
+        requires width { length v.now ≡ length self.now.coefs }
+        requires narrow { length v.now ≤ 64 }
+        requires range { All IsEntry v.now }
+        ensures exact { IsExactly HasEntries (shifted self.now v.now) result }
+        ensures meaning { (z : Point) → length z ≡ length v.now → IfOk result (λ row. value_at row z ≡ value_at self.now (less z v.now)) }
+    {
+        let konst = self.konst - scalar_product(self.coefs.as_slice(), v);
+        Row::new(alloc, self.coefs.as_slice(), konst)
+    }
+
+    /// The row whose value at `z` is the old one at `f(z)`.
+    pub fn compose(&self, alloc: Global, f: &Map) -> Result<Row, LinFault>
+        requires rows { length f.now.rows ≡ length self.now.coefs }
+        requires narrow { length self.now.coefs ≤ 64 }
+        ensures exact { IsExactly HasEntries (composed self.now f.now) result }
+        ensures meaning { (z : Point) → IfOk result (λ row. value_at row z ≡ value_at self.now (image_of f.now z)) }
+    {
+        let width = f.width();
+        let mut coefs = SmallVec::new(alloc);
+        coefs.reserve(width)?;
+        'columns: for column in 0..width {
+            coefs.push(combine(self.coefs(), f.rows(), Place::Column(column), width))?;
+        }
+        let konst = combine(self.coefs(), f.rows(), Place::Constant, width);
+        Row::checked(coefs, konst + self.konst())
+    }
+}
+
+impl TryCopy for Row {
+    fn copy(&self, alloc: Global) -> Result<Self, LinFault> {
+        let coefs = SmallVec::from_slice(alloc, self.coefs.as_slice())?;
+        Ok(Row {
+            coefs,
+            konst: self.konst,
+        })
     }
 }

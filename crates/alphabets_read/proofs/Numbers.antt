@@ -1,11 +1,13 @@
 -- The numbers of a text of the form are below a million.
 use Rattle.std.proofs.Common.{◌≡◌, ℕ, zero, suc, ◌<◌, List, [], ◌∷◌, slice_get, Some, None, arith, refl, sym, subst, length}
-use Rattle.std.specs.Prelude.{All, Option}
+use Rattle.std.specs.Prelude.{All, Option, Result, Ok, Err, IfOk}
+use Rattle.az_ast.specs.System.{System}
+use Rattle.alphabets_read.specs.declared.fault.ReadFault.{ReadFault}
 use Rattle.std.proofs.lemmas.List.Elements.{All-head, All-tail}
 use Rattle.az_text.specs.declared.token.Token.{Token}
 use Rattle.az_text.specs.declared.token.TokenKind.{TokenKind}
 use Rattle.az_text.specs.declared.token.TokenKind.TheVariants.{Word, Number, Quoted, Mark}
-use Rattle.alphabets_read.specs.FirstForm.{Form, kinds, IsForm, IsShort, IsShortNumber, HasSmallNumbers}
+use Rattle.alphabets_read.specs.FirstForm.{Form, kinds, IsForm, IsShort, IsShortNumber, HasSmallNumbers, IsOfForm, program_of}
 use Rattle.alphabets_read.specs.Expected.{kinds_of, number_of}
 
 small_kind : (kind : TokenKind) (digits n : ℕ) → IsShortNumber kind digits → number_of (Some kind) ≡ Some n → n < 1000000
@@ -30,3 +32,7 @@ numbers_are_small tokens form has = record {
   high = small_at tokens has.short 14 form.high (number_is tokens form 14 form.high has.spelled refl);
   factor = small_at tokens has.short 24 form.factor (number_is tokens form 24 form.factor has.spelled refl);
   offset = small_at tokens has.short 28 form.offset (number_is tokens form 28 form.offset has.spelled refl) }
+
+pub of_form : (answer : Result System ReadFault) (form : Form) → HasSmallNumbers form → IfOk answer (λ p. p ≡ program_of form) → IfOk answer (λ p. IsOfForm p)
+of_form (Ok p) form small meant = record { form = form; small = small; meant = meant }
+of_form (Err fault) form small meant = tt

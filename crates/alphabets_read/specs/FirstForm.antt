@@ -91,3 +91,8 @@ pub record IsTextOf (text : List ℕ) (p : System) : Type 0 where
   pub has_form : IsForm tokens form
   pub meant : p ≡ program_of form
 
+-- a program that some text of the form says
+pub record IsOfForm (p : System) : Type 0 where
+  pub form : Form
+  pub small : HasSmallNumbers form
+  pub meant : p ≡ program_of form

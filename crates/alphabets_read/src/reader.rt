@@ -4,7 +4,7 @@ ghost use Rattle.std.specs.Prelude.{◌≡◌, ℕ, ◌<◌, ◌≤◌, ◌∷�
 ghost use Rattle.az_lin.specs.Affine.{IsEntry};
 ghost use Rattle.az_ast.specs.System.{System};
 ghost use Rattle.az_ast.specs.FirstForm.{interval, no_parameters};
-ghost use Rattle.alphabets_read.specs.FirstForm.{IsTextOf, HasSmallNumbers, program_of};
+ghost use Rattle.alphabets_read.specs.FirstForm.{IsTextOf, IsOfForm, HasSmallNumbers, program_of};
 ghost use Rattle.alphabets_read.specs.Expected.{said};
 ghost use Rattle.alphabets_read.specs.Refusal.{RefusesText};
 ghost use Rattle.alphabets_read.specs.declared.fault.ReadFault.TheVariants.{Memory};
@@ -108,6 +108,7 @@ fn place_of(tokens: &[Token], number: usize, text: &[u8]) -> usize
 /// `Syntax` comes exactly where the text is not of the form that is read today.
 pub fn read_program(alloc: Global, text: &[u8]) -> Result<Program, ReadFault>
     ensures ok { IfOk result (λ p. IsTextOf text.now p) }
+    ensures form { IfOk result (λ p. IsOfForm p) }
     ensures cause { IfErr result (RefusesText text.now) }
 {
     let tokens = match lex(alloc, text) {

@@ -57,5 +57,6 @@ asked_by (a ∷ b ∷ []) command file low high c f e plain =
     let second : string_bytes b ≡ string_bytes file = ap string_bytes (sym f) in
     record {
       words_are = cc (first, second);
-      plain = plain }
+      plain = plain;
+    }
 asked_by (a ∷ b ∷ d ∷ rest) command file low high c f e plain = absurd (omega arith)

@@ -48,10 +48,10 @@ module _ (form : Form) where
       → IfOk answer (λ rows. AreOutputRows p empty [] (string_bytes rows))
   written_rows p name value low high (Ok text) is_p is_name is_value is_low is_high h =
       let lines : string_bytes text ≡ ramp_lines form.output (pos form.factor) (pos form.offset) (pos form.low) (count_between form.low form.high) =
-        h (pos form.factor) (pos form.offset) is_value
-        ∙ ap (λ n. ramp_lines n (pos form.factor) (pos form.offset) (pos low) (count_between low high)) is_name
-        ∙ ap (λ l. ramp_lines form.output (pos form.factor) (pos form.offset) (pos l) (count_between l high)) is_low
-        ∙ ap (λ k. ramp_lines form.output (pos form.factor) (pos form.offset) (pos form.low) (count_between form.low k)) is_high in
+      h (pos form.factor) (pos form.offset) is_value
+      ∙ ap (λ n. ramp_lines n (pos form.factor) (pos form.offset) (pos low) (count_between low high)) is_name
+      ∙ ap (λ l. ramp_lines form.output (pos form.factor) (pos form.offset) (pos l) (count_between l high)) is_low
+      ∙ ap (λ k. ramp_lines form.output (pos form.factor) (pos form.offset) (pos form.low) (count_between form.low k)) is_high in
       subst (λ q. AreOutputRows q empty [] (string_bytes text)) (sym is_p)
       (subst (λ t. AreOutputRows (program_of form) empty [] t) (sym lines) (rows_of (count_between form.low form.high) refl))
   written_rows p name value low high (Err fault) is_p is_name is_value is_low is_high h = tt

@@ -5,7 +5,8 @@ ghost use Rattle.alphaz_cli.specs.Lines.{syntax_line};
 
 use std::alloc::{AllocError, Global};
 
-pub(crate) const USAGE: &str = "usage: eval PROGRAM [NAME=N or NAME@FILE]... ; run SCRIPT [--workers K] ; check SCRIPT CERTIFICATE ; make N [--workers K]\n";
+pub(crate) const USAGE: &str =
+    "usage: eval PROGRAM [NAME=N or NAME@FILE]... ; run SCRIPT [--workers K] ; check SCRIPT CERTIFICATE ; make N [--workers K]\n";
 
 pub(crate) const FILE_LIMIT: &str = "alphaz: 11 Limit File\n";
 

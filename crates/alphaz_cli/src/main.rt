@@ -3,21 +3,19 @@
 //! `specs/Listing.antt` says what a run says and how it ends.
 #![tactic(auto)]
 
-
 mod eval;
 mod lines;
 mod rows;
 mod run;
 mod say;
-
-
 mod status;
+#[cfg(test)]
+mod tests;
 mod words;
 
+use az_desk::HostDesk;
 use std::env;
 use std::process::ExitCode;
-
-use az_desk::HostDesk;
 
 /// The status for arguments that are no text, which no word grammar takes.
 const USAGE_STATUS: u8 = 2;

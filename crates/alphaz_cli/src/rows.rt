@@ -37,7 +37,12 @@ fn rows_between(
     let count = (high + 1).saturating_sub(low);
     for step in 0..count {
         let index = low + step;
-        push_row(&mut text, name, index, wrap(value.value(&[i128::from(index)])))?;
+        push_row(
+            &mut text,
+            name,
+            index,
+            wrap(value.value(&[i128::from(index)])),
+        )?;
     }
     Ok(text)
 }

@@ -52,11 +52,7 @@ fn named(alloc: Global, name: &str) -> Result<Name, DeskFault>
 
 /// Puts the bytes in the place of those under the name, or at the end.
 #[tactic(auto, using(crate::proofs::FileLemmas::with_file_at_place, crate::proofs::FileLemmas::with_file_at_end))]
-fn put(
-    files: &mut Vec<(Name, List<u8>)>,
-    name: Name,
-    bytes: List<u8>,
-) -> Result<(), DeskFault>
+fn put(files: &mut Vec<(Name, List<u8>)>, name: Name, bytes: List<u8>) -> Result<(), DeskFault>
     ensures ok { OnOk result (files.new.items ≡ with_file name bytes files.old.items) }
     ensures err { OnErr result (files.new.items ≡ files.old.items) }
     ensures cause { IfErr result (λ fault. fault ≡ Memory) }

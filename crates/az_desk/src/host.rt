@@ -7,12 +7,11 @@ ghost use Rattle.az_desk.specs.declared.fault.DeskFault.TheVariants.{Failed, Mem
 use crate::{Desk, DeskFault, MOST_BYTES};
 use az_lin::List;
 use std::alloc::Global;
-use std::fs;
 use std::fs::File;
-use std::io;
 use std::io::{ErrorKind, Read};
 use std::marker::Model;
 use std::rt::Files;
+use std::{fs, io};
 
 /// Real files and the real standard output, with a count of their failures. Nothing is promised of what
 /// they hold: contracts see the count alone.

@@ -1,6 +1,6 @@
 //! A desk in memory that fails at listed calls.
 
-ghost use Rattle.std.specs.Prelude.{◌≡◌, [], Some, Err};
+ghost use Rattle.std.specs.Prelude.{◌≡◌, [], Some, Err, take};
 ghost use Rattle.az_desk.specs.Desk.{Reads, Writes, Says, HasCause};
 ghost use Rattle.az_desk.specs.Failing.{next_count, failure_of, ReadsUnlessListed, BringsUnlessListed, contents_with_file, contents_with_said};
 ghost use Rattle.az_desk.specs.declared.fault.DeskFault.TheVariants.{Failed};
@@ -36,13 +36,16 @@ impl Model for MemoryDesk {
     ghost view = { λ it. record { contents = it.desk; failures = it.failures; calls = it.calls; faults = it.faults } };
 }
 
+/// The bytes that a failing call keeps.
+fn front(bytes: &[u8], kept: usize) -> &[u8]
+    ensures { result.now ≡ take kept bytes.now }
+{
+    &bytes[..kept.min(bytes.len())]
+}
+
 impl MemoryDesk {
     /// A desk with these files, at which no call was made yet.
-    pub fn new(
-        alloc: Global,
-        files: List<(Name, List<u8>)>,
-        failures: List<Failure>,
-    ) -> MemoryDesk
+    pub fn new(alloc: Global, files: List<(Name, List<u8>)>, failures: List<Failure>) -> MemoryDesk
         ensures { result ≡ record { contents = record { files = files; said = [] }; failures = failures; calls = 0; faults = 0 } }
     {
         MemoryDesk {
@@ -81,7 +84,11 @@ impl MemoryDesk {
     {
         let call = self.calls;
         self.calls = call.saturating_add(1);
-        let listed = self.failures.as_slice().iter().find(|failure| failure.call == call);
+        let listed = self
+            .failures
+            .as_slice()
+            .iter()
+            .find(|failure| failure.call == call);
         listed.map(|failure| failure.kept)
     }
 
@@ -125,7 +132,7 @@ impl Desk for MemoryDesk {
         let Some(kept) = self.begin() else {
             return self.desk.write(alloc, name, bytes);
         };
-        self.desk.write(alloc, name, &bytes[..kept.min(bytes.len())])?;
+        self.desk.write(alloc, name, front(bytes, kept))?;
         self.fail()
     }
 
@@ -138,7 +145,7 @@ impl Desk for MemoryDesk {
         let Some(kept) = self.begin() else {
             return self.desk.say(alloc, bytes);
         };
-        self.desk.say(alloc, &bytes[..kept.min(bytes.len())])?;
+        self.desk.say(alloc, front(bytes, kept))?;
         self.fail()
     }
 }

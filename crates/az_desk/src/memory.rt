@@ -1,10 +1,10 @@
 //! A desk in memory that fails at listed calls.
 
-ghost use Rattle.std.specs.Prelude.{◌≡◌, [], Some, Err, take};
-ghost use Rattle.az_desk.specs.Desk.{Reads, Writes, Says, HasCause};
-ghost use Rattle.az_desk.specs.Failing.{next_count, failure_of, ReadsUnlessListed, BringsUnlessListed, contents_with_file, contents_with_said};
-ghost use Rattle.az_desk.specs.declared.fault.DeskFault.TheVariants.{Failed};
+ghost use Rattle.std.specs.Prelude.{◌≡◌, [], Some, take};
+ghost use Rattle.az_desk.specs.Desk.{Reads, Writes, Says, HasCause, next_count};
+ghost use Rattle.az_desk.specs.Failing.{failure_of, ReadsUnlessListed, BringsUnlessListed, contents_with_file, contents_with_said};
 
+use crate::fault::fail;
 use crate::{Desk, DeskFault, HonestDesk};
 use az_lin::{List, Name};
 use std::alloc::Global;
@@ -91,16 +91,6 @@ impl MemoryDesk {
             .find(|failure| failure.call == call);
         listed.map(|failure| failure.kept)
     }
-
-    /// Counts a fault and answers it.
-    fn fail<T>(&mut self) -> Result<T, DeskFault>
-        ensures answer { result ≡ Err Failed }
-        ensures counted { self.new ≡ record self.old { faults = next_count self.old.faults } }
-        ensures cause { HasCause self.old.faults self.new.faults result }
-    {
-        self.faults = self.faults.saturating_add(1);
-        Err(DeskFault::Failed)
-    }
 }
 
 impl Desk for MemoryDesk {
@@ -118,7 +108,7 @@ impl Desk for MemoryDesk {
         ensures listed { ReadsUnlessListed self.old name.now result self.new }
     {
         if self.begin().is_some() || self.desk.file(name).is_none() {
-            return self.fail();
+            return fail(&mut self.faults);
         }
         self.desk.read(alloc, name)
     }
@@ -133,7 +123,7 @@ impl Desk for MemoryDesk {
             return self.desk.write(alloc, name, bytes);
         };
         self.desk.write(alloc, name, front(bytes, kept))?;
-        self.fail()
+        fail(&mut self.faults)
     }
 
     fn say(&mut self, alloc: Global, bytes: &[u8]) -> Result<(), DeskFault>
@@ -146,6 +136,6 @@ impl Desk for MemoryDesk {
             return self.desk.say(alloc, bytes);
         };
         self.desk.say(alloc, front(bytes, kept))?;
-        self.fail()
+        fail(&mut self.faults)
     }
 }

@@ -38,9 +38,13 @@ Says old bytes (Err TooLong) new = ⊥
 Says old bytes (Err Failed) new = SaysSome old bytes new
 Says old bytes (Err Memory) new = new ≡ old
 
+-- one more, up to the last of a u64
+abbrev pub next_count : ℕ → ℕ
+next_count n = min (n + 1) (2 ^ 64 - 1)
+
 -- The count rose, or stands at its type's end.
 abbrev pub Rose : ℕ → ℕ → Type 0
-Rose before now = min (before + 1) (2 ^ 64 - 1) ≤ now
+Rose before now = next_count before ≤ now
 
 -- what holds of every answer but `Failed`
 abbrev pub UnlessFailed : {T : Type 0} → Result T DeskFault → Type 0 → Type 0

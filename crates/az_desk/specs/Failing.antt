@@ -1,6 +1,7 @@
 -- A desk in memory that fails at listed calls.
-use Rattle.std.specs.Prelude.{◌≡◌, ℕ, ◌+◌, ◌-◌, ◌^◌, ◌==◌, ◌||◌, min, List, ◌++◌, take, find, Bool, true, false}
+use Rattle.std.specs.Prelude.{◌≡◌, ℕ, ◌==◌, ◌||◌, List, ◌++◌, take, find, Bool, true, false}
 use Rattle.std.specs.Prelude.{Option, Some, None, option_map, is_some, is_none, Result, Ok, Err}
+use Rattle.az_desk.specs.Desk.{next_count}
 use Rattle.az_desk.specs.Files.{Contents, file_of, with_file}
 use Rattle.az_desk.specs.declared.memory.Failure.{Failure}
 use Rattle.az_desk.specs.declared.fault.DeskFault.{DeskFault}
@@ -12,10 +13,6 @@ pub record FailingDesk : Type 0 where
   pub failures : List Failure
   pub calls : ℕ
   pub faults : ℕ
-
--- one more, up to the last of a u64
-abbrev pub next_count : ℕ → ℕ
-next_count n = min (n + 1) (2 ^ 64 - 1)
 
 -- how many bytes the next call keeps, where a failure is listed for it
 abbrev pub failure_of : FailingDesk → Option ℕ

@@ -1,7 +1,8 @@
 //! Why a call on a desk did not do what was asked.
 
-ghost use Rattle.std.specs.Prelude.{◌≡◌};
-ghost use Rattle.az_desk.specs.declared.fault.DeskFault.TheVariants.{Memory};
+ghost use Rattle.std.specs.Prelude.{◌≡◌, Err};
+ghost use Rattle.az_desk.specs.Desk.{HasCause, next_count};
+ghost use Rattle.az_desk.specs.declared.fault.DeskFault.TheVariants.{Failed, Memory};
 
 use std::alloc::{AllocError, AllocFailed};
 
@@ -29,4 +30,14 @@ impl<T: Drop> From<AllocFailed<T>> for DeskFault {
     fn from(_: AllocFailed<T>) -> Self {
         DeskFault::Memory
     }
+}
+
+/// Counts a fault and answers it.
+pub(crate) fn fail<T>(faults: &mut u64) -> Result<T, DeskFault>
+    ensures answer { result ≡ Err Failed }
+    ensures counted { faults.new ≡ next_count faults.old }
+    ensures cause { HasCause faults.old faults.new result }
+{
+    *faults = faults.saturating_add(1);
+    Err(DeskFault::Failed)
 }

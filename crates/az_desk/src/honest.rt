@@ -40,7 +40,7 @@ fn copy_of(alloc: Global, bytes: &[u8]) -> Result<List<u8>, DeskFault>
     Ok(List::from_vec(Vec::from_slice(alloc, bytes)?))
 }
 
-fn named(alloc: Global, name: &str) -> Result<Name, DeskFault>
+fn name_of(alloc: Global, name: &str) -> Result<Name, DeskFault>
     ensures ok { IfOk result (λ made. made ≡ name.now) }
     ensures cause { IfErr result (λ fault. fault ≡ Memory) }
 {
@@ -52,11 +52,7 @@ fn named(alloc: Global, name: &str) -> Result<Name, DeskFault>
 
 /// Puts the bytes in the place of those under the name, or at the end.
 #[tactic(auto, using(crate::proofs::FileLemmas::with_file_at_place, crate::proofs::FileLemmas::with_file_at_end))]
-fn put(
-    files: &mut Vec<(Name, List<u8>)>,
-    name: Name,
-    bytes: List<u8>,
-) -> Result<(), DeskFault>
+fn put(files: &mut Vec<(Name, List<u8>)>, name: Name, bytes: List<u8>) -> Result<(), DeskFault>
     ensures ok { OnOk result (files.new.items ≡ with_file name bytes files.old.items) }
     ensures err { OnErr result (files.new.items ≡ files.old.items) }
     ensures cause { IfErr result (λ fault. fault ≡ Memory) }
@@ -118,7 +114,7 @@ impl Desk for HonestDesk {
     }
 
     fn write(&mut self, alloc: Global, name: &str, bytes: &[u8]) -> Result<(), DeskFault> {
-        let name = named(alloc, name)?;
+        let name = name_of(alloc, name)?;
         let bytes = copy_of(alloc, bytes)?;
         put(&mut self.files, name, bytes)
     }

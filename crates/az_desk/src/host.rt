@@ -1,18 +1,16 @@
 //! The desk over the runtime's files and its standard output.
 
-ghost use Rattle.std.specs.Prelude.{◌≡◌, ◌⊎◌, None, Err};
-ghost use Rattle.az_desk.specs.Desk.{HasCause};
-ghost use Rattle.az_desk.specs.declared.fault.DeskFault.TheVariants.{Failed, Memory};
+ghost use Rattle.std.specs.Prelude.{◌≡◌, None};
 
+use crate::fault::fail;
 use crate::{Desk, DeskFault, MOST_BYTES};
 use az_lin::List;
 use std::alloc::Global;
-use std::fs;
 use std::fs::File;
-use std::io;
 use std::io::{ErrorKind, Read};
 use std::marker::Model;
 use std::rt::Files;
+use std::{fs, io};
 
 /// Real files and the real standard output, with a count of their failures. Nothing is promised of what
 /// they hold: contracts see the count alone.
@@ -45,18 +43,6 @@ impl<'a, R: Files + Print + AllocGlobal> HostDesk<'a, R> {
     {
         HostDesk { rt, faults: 0 }
     }
-
-    /// Counts an error of the system as a fault, unless it is want of memory.
-    fn fail<T>(&mut self, error: io::Error) -> Result<T, DeskFault>
-        ensures answer { (result ≡ Err Failed) ⊎ (result ≡ Err Memory) }
-        ensures cause { HasCause self.old self.new result }
-    {
-        if error.kind() == ErrorKind::OutOfMemory {
-            return Err(DeskFault::Memory);
-        }
-        self.faults = self.faults.saturating_add(1);
-        Err(DeskFault::Failed)
-    }
 }
 
 impl<'a, R: Files + Print + AllocGlobal> Desk for HostDesk<'a, R> {
@@ -70,21 +56,22 @@ impl<'a, R: Files + Print + AllocGlobal> Desk for HostDesk<'a, R> {
         match front_of_file(self.rt, alloc, name) {
             Ok(bytes) if bytes.len() > MOST_BYTES => Err(DeskFault::TooLong),
             Ok(bytes) => Ok(List::from_vec(bytes)),
-            Err(error) => self.fail(error),
+            Err(error) if error.kind() == ErrorKind::OutOfMemory => Err(DeskFault::Memory),
+            Err(_) => fail(&mut self.faults),
         }
     }
 
     fn write(&mut self, _alloc: Global, name: &str, bytes: &[u8]) -> Result<(), DeskFault> {
         match fs::write(self.rt, name, bytes) {
             Ok(()) => Ok(()),
-            Err(error) => self.fail(error),
+            Err(_) => fail(&mut self.faults),
         }
     }
 
     fn say(&mut self, _alloc: Global, bytes: &[u8]) -> Result<(), DeskFault> {
         match self.rt.write_all(bytes) {
             Ok(()) => Ok(()),
-            Err(error) => self.fail(error),
+            Err(_) => fail(&mut self.faults),
         }
     }
 }

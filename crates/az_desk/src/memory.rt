@@ -1,10 +1,10 @@
 //! A desk in memory that fails at listed calls.
 
-ghost use Rattle.std.specs.Prelude.{◌≡◌, [], Some, Err};
-ghost use Rattle.az_desk.specs.Desk.{Reads, Writes, Says, HasCause};
-ghost use Rattle.az_desk.specs.Failing.{next_count, failure_of, ReadsUnlessListed, BringsUnlessListed, contents_with_file, contents_with_said};
-ghost use Rattle.az_desk.specs.declared.fault.DeskFault.TheVariants.{Failed};
+ghost use Rattle.std.specs.Prelude.{◌≡◌, [], Some, take};
+ghost use Rattle.az_desk.specs.Desk.{Reads, Writes, Says, HasCause, next_count};
+ghost use Rattle.az_desk.specs.Failing.{failure_of, ReadsUnlessListed, BringsUnlessListed, contents_with_file, contents_with_said};
 
+use crate::fault::fail;
 use crate::{Desk, DeskFault, HonestDesk};
 use az_lin::{List, Name};
 use std::alloc::Global;
@@ -36,13 +36,16 @@ impl Model for MemoryDesk {
     ghost view = { λ it. record { contents = it.desk; failures = it.failures; calls = it.calls; faults = it.faults } };
 }
 
+/// The bytes that a failing call keeps.
+fn front(bytes: &[u8], kept: usize) -> &[u8]
+    ensures { result.now ≡ take kept bytes.now }
+{
+    &bytes[..kept.min(bytes.len())]
+}
+
 impl MemoryDesk {
     /// A desk with these files, at which no call was made yet.
-    pub fn new(
-        alloc: Global,
-        files: List<(Name, List<u8>)>,
-        failures: List<Failure>,
-    ) -> MemoryDesk
+    pub fn new(alloc: Global, files: List<(Name, List<u8>)>, failures: List<Failure>) -> MemoryDesk
         ensures { result ≡ record { contents = record { files = files; said = [] }; failures = failures; calls = 0; faults = 0 } }
     {
         MemoryDesk {
@@ -81,18 +84,12 @@ impl MemoryDesk {
     {
         let call = self.calls;
         self.calls = call.saturating_add(1);
-        let listed = self.failures.as_slice().iter().find(|failure| failure.call == call);
+        let listed = self
+            .failures
+            .as_slice()
+            .iter()
+            .find(|failure| failure.call == call);
         listed.map(|failure| failure.kept)
-    }
-
-    /// Counts a fault and answers it.
-    fn fail<T>(&mut self) -> Result<T, DeskFault>
-        ensures answer { result ≡ Err Failed }
-        ensures counted { self.new ≡ record self.old { faults = next_count self.old.faults } }
-        ensures cause { HasCause self.old.faults self.new.faults result }
-    {
-        self.faults = self.faults.saturating_add(1);
-        Err(DeskFault::Failed)
     }
 }
 
@@ -111,7 +108,7 @@ impl Desk for MemoryDesk {
         ensures listed { ReadsUnlessListed self.old name.now result self.new }
     {
         if self.begin().is_some() || self.desk.file(name).is_none() {
-            return self.fail();
+            return fail(&mut self.faults);
         }
         self.desk.read(alloc, name)
     }
@@ -125,8 +122,8 @@ impl Desk for MemoryDesk {
         let Some(kept) = self.begin() else {
             return self.desk.write(alloc, name, bytes);
         };
-        self.desk.write(alloc, name, &bytes[..kept.min(bytes.len())])?;
-        self.fail()
+        self.desk.write(alloc, name, front(bytes, kept))?;
+        fail(&mut self.faults)
     }
 
     fn say(&mut self, alloc: Global, bytes: &[u8]) -> Result<(), DeskFault>
@@ -138,7 +135,7 @@ impl Desk for MemoryDesk {
         let Some(kept) = self.begin() else {
             return self.desk.say(alloc, bytes);
         };
-        self.desk.say(alloc, &bytes[..kept.min(bytes.len())])?;
-        self.fail()
+        self.desk.say(alloc, front(bytes, kept))?;
+        fail(&mut self.faults)
     }
 }

@@ -11,12 +11,7 @@ use std::alloc::Global;
 use std::test::Fail;
 
 /// Copies a file and says what it holds.
-fn copy_and_say<D: Desk>(
-    alloc: Global,
-    desk: &mut D,
-    from: &str,
-    to: &str,
-) -> Result<(), DeskFault>
+fn copy_and_say<D: Desk>(alloc: Global, desk: &mut D, from: &str, to: &str) -> Result<(), DeskFault>
     ensures said { OnOk result (ForSome (D.files desk.old) (λ files.
         D.said desk.new ≡ option_map (λ said. said ++ content_of files from.now) (D.said desk.old))) }
     ensures written { OnOk result (ForSome (D.files desk.old) (λ files.
@@ -47,39 +42,35 @@ fn failing_at(alloc: Global, call: u64, kept: usize) -> Result<List<Failure>, Li
 #[test]
 fn an_honest_desk_keeps_what_it_is_given(rt: HostRuntime) -> Result<(), Fail> {
     let alloc = rt.alloc();
-    for (from, to, a, b, c, said) in [
-        ("a", "b", Some("one"), Some("one"), None, "one"),
-        ("b", "c", Some("one"), Some("two"), Some("two"), "two"),
-        ("c", "a", Some(""), Some("two"), None, ""),
-    ] {
-        let mut desk = HonestDesk::new(alloc, two_files(alloc)?);
-        copy_and_say(alloc, &mut desk, from, to)?;
-        for (name, bytes) in [("a", a), ("b", b), ("c", c)] {
-            assert_eq!(rt; desk.file(name), bytes.map(|text| text.as_bytes()));
-        }
-        assert_eq!(rt; desk.said(), said.as_bytes());
-        assert_eq!(rt; desk.files().len(), if c.is_some() { 3 } else { 2 });
+    let mut desk = HonestDesk::new(alloc, two_files(alloc)?);
+    copy_and_say(alloc, &mut desk, "b", "c")?;
+    copy_and_say(alloc, &mut desk, "a", "b")?;
+    copy_and_say(alloc, &mut desk, "z", "a")?;
+    for (name, bytes) in [("a", ""), ("b", "one"), ("c", "two")] {
+        assert_eq!(rt; desk.file(name), Some(bytes.as_bytes()));
     }
+    assert_eq!(rt; desk.file("z"), None);
+    assert_eq!(rt; desk.files().len(), 3);
+    assert_eq!(rt; desk.said(), b"twoone".as_slice());
     Ok(())
 }
 
 #[test]
 fn a_memory_desk_fails_at_the_listed_call(rt: HostRuntime) -> Result<(), Fail> {
     let alloc = rt.alloc();
-    for (call, kept, from, faults, calls, c, said) in [
-        (0, 2, "a", 1, 1, None, ""),
-        (1, 2, "a", 1, 2, Some("on"), ""),
-        (1, 9, "a", 1, 2, Some("one"), ""),
-        (2, 1, "a", 1, 3, Some("one"), "o"),
-        (3, 1, "a", 0, 3, Some("one"), "one"),
-        (3, 1, "z", 1, 1, None, ""),
+    for (call, kept, from, calls, written, said) in [
+        (0, 2, "a", 2, "two", "!"),
+        (1, 2, "a", 3, "on", "!"),
+        (1, 9, "a", 3, "one", "!"),
+        (2, 1, "a", 4, "one", "o!"),
+        (9, 1, "z", 2, "two", "!"),
     ] {
         let mut desk = MemoryDesk::new(alloc, two_files(alloc)?, failing_at(alloc, call, kept)?);
-        let result = copy_and_say(alloc, &mut desk, from, "c");
-        let want = if faults == 0 { Ok(()) } else { Err(DeskFault::Failed) };
-        assert_eq!(rt; result, want, "call {call}, kept {kept}");
-        assert_eq!(rt; (desk.faults(), desk.calls()), (faults, calls));
-        assert_eq!(rt; desk.contents().file("c"), c.map(|text| text.as_bytes()));
+        let result = copy_and_say(alloc, &mut desk, from, "b");
+        assert_eq!(rt; result, Err(DeskFault::Failed));
+        desk.say(alloc, b"!")?;
+        assert_eq!(rt; (desk.faults(), desk.calls()), (1, calls));
+        assert_eq!(rt; desk.contents().file("b"), Some(written.as_bytes()));
         assert_eq!(rt; desk.contents().said(), said.as_bytes());
     }
     Ok(())

@@ -1,4 +1,4 @@
-use Rattle.std.proofs.Common.{rules, ◌≡◌, position, Some, None, sym, ◌∙◌, ap}
+use Rattle.std.proofs.Common.{rules, ◌≡◌, position, Some, None, sym}
 use Rattle.std.specs.Str.{bytes_eq}
 use Rattle.az_desk.proofs.FileLemmas.{file_of_at_place, file_of_absent}
 use Rattle.az_desk.proofs.honest.HonestDesk.file.Goals as goal

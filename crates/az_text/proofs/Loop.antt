@@ -87,8 +87,7 @@ module _ (at : ℕ) (text : List ℕ) (tokens : List Token) (answer : Result (Li
     (so_far : and_all tokens (lexed_from at 0 (drop at text)) ≡ answer) where
   pub between_on : (len : ℕ) → read ≡ Between len → (0 < len) × (at + len ≤ length text) × (and_all tokens (lexed_from (at + len) 0 (drop (at + len) text)) ≡ answer)
   between_on len is =
-      let turned = turn at text read (Between len) inside by is in
-      (
+      let turned = turn at text read (Between len) inside by is in (
         turned.0,
         omega (arith, turned.1, length-drop at text),
         ap (λ l. and_all tokens (lexed_from (at + len) 0 l)) (sym (drop-drop len at text)) ∙ ap (and_all tokens) (sym turned.2) ∙ so_far,
@@ -96,13 +95,12 @@ module _ (at : ℕ) (text : List ℕ) (tokens : List Token) (answer : Result (Li
 
   pub cut_on : (kind : TokenKind) (len : ℕ) → read ≡ Cut kind len → (0 < len) × (at + len ≤ length text) × (and_all (tokens ++ token_at at kind len ∷ []) (lexed_from (at + len) 0 (drop (at + len) text)) ≡ answer)
   cut_on kind len is =
-      let turned = turn at text read (Cut kind len) inside by is in
-      (
+      let turned = turn at text read (Cut kind len) inside by is in (
         turned.0,
         omega (arith, turned.1, length-drop at text),
         ap (λ l. and_all (tokens ++ token_at at kind len ∷ []) (lexed_from (at + len) 0 l)) (sym (drop-drop len at text))
-        ∙ sym (and_all-and_then tokens (token_at at kind len) (lexed_from (at + len) 0 (drop len (drop at text))))
-        ∙ ap (and_all tokens) (sym turned.2) ∙ so_far,
+            ∙ sym (and_all-and_then tokens (token_at at kind len) (lexed_from (at + len) 0 (drop len (drop at text))))
+            ∙ ap (and_all tokens) (sym turned.2) ∙ so_far,
       )
 
   pub wide_here : read ≡ Wide → Err (WideNumber at) ≡ answer

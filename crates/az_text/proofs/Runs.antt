@@ -14,10 +14,10 @@ Stops p (b ∷ rest) = p b ≡ false
 at_run : (p : ℕ → Bool) (b : ℕ) (text : List ℕ) (P : ℕ → Type 0) → (p b ≡ true → P (suc (prefix_len p text))) → (p b ≡ false → P 0) → P (prefix_len p (b ∷ text))
 at_run p b text P more none =
     let by : (t : Bool) → p b ≡ t → P (cond t (1 + prefix_len p text) 0)
-      = λ t. elim t as (λ t. p b ≡ t → P (cond t (1 + prefix_len p text) 0)) [
-        true ↦ λ e. subst P (sym (one-add (prefix_len p text))) (more e)
+    = λ t. elim t as (λ t. p b ≡ t → P (cond t (1 + prefix_len p text) 0)) [
+      | true ↦ λ e. subst P (sym (one-add (prefix_len p text))) (more e)
       | false ↦ λ e. none e
-      ] in
+    ] in
     by (p b) refl
 
 pub run_passes : (p : ℕ → Bool) (text : List ℕ) → AllAre p (take (prefix_len p text) text)

@@ -1,9 +1,7 @@
-use Rattle.std.proofs.Common.{◌≡◌, ℕ, ◌+◌, ◌^◌, ◌<◌, ◌≤◌, List, length, Option, None, sym, arith}
+use Rattle.std.proofs.Common.{◌≡◌, ℕ, ◌+◌, ◌^◌, ◌≤◌, List, None, sym, arith}
 use Rattle.std.proofs.lemmas.Bool.{cond-false, le-ltb}
-use Rattle.std.specs.Char.{is_ascii_digit}
 use Rattle.std.specs.Str.Parse.{digits_value}
 use Rattle.az_text.specs.Fronts.{value_below}
-use Rattle.az_text.specs.Tokens.{AllAre}
 use Rattle.az_text.proofs.Digits.{digits_value_step, digits_value-take-le}
 use Rattle.az_text.proofs.front.value_of.Goals as goal
 

@@ -1,10 +1,11 @@
 -- From the computed answer to the readings of a text.
-use Rattle.std.proofs.Common.{◌≡◌, ℕ, List, Result, Ok, Err, sym, ◌∙◌, subst}
+use Rattle.std.proofs.Common.{◌≡◌, ℕ, List, Result, Ok, Err, IfOk, sym, ◌∙◌, subst}
 use Rattle.az_text.specs.declared.fault.LexFault.{LexFault}
 use Rattle.az_text.specs.declared.fault.LexFault.TheVariants.{BadByte, WideNumber, Memory}
 use Rattle.az_text.specs.declared.token.Token.{Token}
-use Rattle.az_text.specs.Fronts.{lexed, lexed_from}
-use Rattle.az_text.specs.Reading.{Reads, Answers, IsReadOf}
+use Rattle.az_text.specs.Fronts.{lexed, LexedIsTheReading}
+use Rattle.az_text.specs.Reading.{Reads, Answers, IsReadOf, AreIn}
+use Rattle.az_text.proofs.Spans.{tokens_in}
 use Rattle.az_text.proofs.Walk.{reads_lexed, lexed_only}
 
 read_of : (text : List ℕ) (answer : Result (List Token) LexFault) → answer ≡ lexed text → Reads 0 text answer
@@ -27,3 +28,10 @@ answers_only text (Ok tokens) answer is reads = is ∙ sym (computed text answer
 answers_only text (Err (BadByte place)) answer is reads = is ∙ sym (computed text answer reads)
 answers_only text (Err (WideNumber place)) answer is reads = is ∙ sym (computed text answer reads)
 answers_only text (Err Memory) answer is reads = tt
+
+pub answers_in : (text : List ℕ) (got : Result (List Token) LexFault) → Answers got (lexed text) → IfOk got (λ tokens. AreIn text 0 tokens)
+answers_in text (Ok tokens) is = tokens_in text tokens (read_of text _ is)
+answers_in text (Err fault) is = tt
+
+pub lexed_is_the_reading : LexedIsTheReading
+lexed_is_the_reading text = (reads_lexed text, λ answer reads. computed text answer reads)

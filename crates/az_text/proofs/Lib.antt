@@ -9,3 +9,5 @@ pub mod Unique
 pub mod Walk
 pub mod Loop
 pub mod Given
+pub mod Spans
+pub mod Pieces

@@ -1,6 +1,6 @@
 -- One turn of the lexer's loop: what the text begins with at the place `at`, and the answer further on.
-use Rattle.std.proofs.Common.{◌≡◌, ℕ, zero, suc, ◌+◌, ◌-◌, ◌<◌, ◌≤◌, List, [], ◌∷◌, ◌++◌, take, drop, get_or, length, Result, Ok, Err, refl, sym, ap, ◌∙◌, subst, arith, append_assoc, length-append, length-drop, length-take-le, take-append-drop}
-use Rattle.std.proofs.lemmas.List.{drop_more, drop_all, drop-drop, take_rest, append-nil}
+use Rattle.std.proofs.Common.{◌≡◌, ℕ, zero, suc, ◌+◌, ◌-◌, ◌<◌, ◌≤◌, List, [], ◌∷◌, ◌++◌, take, drop, length, Result, Ok, Err, refl, sym, ap, ◌∙◌, subst, arith, append_assoc, length-append, length-drop, length-take-le, take-append-drop}
+use Rattle.std.proofs.lemmas.List.{drop_all, drop-drop, take_rest, append-nil}
 use Rattle.az_text.specs.declared.fault.LexFault.{LexFault}
 use Rattle.az_text.specs.declared.fault.LexFault.TheVariants.{BadByte, WideNumber}
 use Rattle.az_text.specs.declared.front.Front.{Front}
@@ -87,8 +87,7 @@ module _ (at : ℕ) (text : List ℕ) (tokens : List Token) (answer : Result (Li
     (so_far : and_all tokens (lexed_from at 0 (drop at text)) ≡ answer) where
   pub between_on : (len : ℕ) → read ≡ Between len → (0 < len) × (at + len ≤ length text) × (and_all tokens (lexed_from (at + len) 0 (drop (at + len) text)) ≡ answer)
   between_on len is =
-      let turned = turn at text read (Between len) inside by is in
-      (
+      let turned = turn at text read (Between len) inside by is in (
         turned.0,
         omega (arith, turned.1, length-drop at text),
         ap (λ l. and_all tokens (lexed_from (at + len) 0 l)) (sym (drop-drop len at text)) ∙ ap (and_all tokens) (sym turned.2) ∙ so_far,
@@ -96,13 +95,12 @@ module _ (at : ℕ) (text : List ℕ) (tokens : List Token) (answer : Result (Li
 
   pub cut_on : (kind : TokenKind) (len : ℕ) → read ≡ Cut kind len → (0 < len) × (at + len ≤ length text) × (and_all (tokens ++ token_at at kind len ∷ []) (lexed_from (at + len) 0 (drop (at + len) text)) ≡ answer)
   cut_on kind len is =
-      let turned = turn at text read (Cut kind len) inside by is in
-      (
+      let turned = turn at text read (Cut kind len) inside by is in (
         turned.0,
         omega (arith, turned.1, length-drop at text),
         ap (λ l. and_all (tokens ++ token_at at kind len ∷ []) (lexed_from (at + len) 0 l)) (sym (drop-drop len at text))
-        ∙ sym (and_all-and_then tokens (token_at at kind len) (lexed_from (at + len) 0 (drop len (drop at text))))
-        ∙ ap (and_all tokens) (sym turned.2) ∙ so_far,
+            ∙ sym (and_all-and_then tokens (token_at at kind len) (lexed_from (at + len) 0 (drop len (drop at text))))
+            ∙ ap (and_all tokens) (sym turned.2) ∙ so_far,
       )
 
   pub wide_here : read ≡ Wide → Err (WideNumber at) ≡ answer

@@ -1,5 +1,5 @@
 -- What `front_of` gives is what the text begins with.
-use Rattle.std.proofs.Common.{◌≡◌, ℕ, zero, suc, ◌+◌, ◌-◌, ◌^◌, ◌<◌, ◌≤◌, Bool, true, false, cond, eqb, ltb, List, [], ◌∷◌, ◌++◌, take, drop, get_or, length, Option, Some, None, refl, sym, ap, ◌∙◌, subst, arith, append_assoc, take-append-drop, length-take-le, ⊎_elim}
+use Rattle.std.proofs.Common.{◌≡◌, ℕ, suc, ◌+◌, ◌^◌, ◌<◌, ◌≤◌, Bool, true, false, cond, eqb, ltb, List, [], ◌∷◌, ◌++◌, take, drop, get_or, length, Option, Some, None, refl, sym, ap, ◌∙◌, subst, arith, append_assoc, take-append-drop, length-take-le, ⊎_elim}
 use Rattle.std.proofs.lemmas.Bool.Decides.{nat_tests}
 use Rattle.std.proofs.lemmas.Bool.{eqb-true, eqb-false, ltb-true, ltb-false, cond-true, cond-false, cases_lt}
 use Rattle.std.proofs.lemmas.List.{drop_more, get_or_at, get_or_past, length_push}
@@ -16,11 +16,11 @@ use Rattle.az_text.specs.declared.token.TokenKind.TheVariants.{Word, Number, Quo
 use Rattle.az_text.specs.Fronts.{lookup, lookup_two, single_marks, double_marks, mark_or_nothing, single_front, mark_front, word_front, number_front, value_below, number_or_wide, quoted_front, comment_front, front_of}
 use Rattle.az_text.specs.Pieces.{EndsAt}
 use Rattle.az_text.specs.Reading.{IsNarrow}
-use Rattle.az_text.specs.Tokens.{is_blank, is_word_byte, is_inner, is_before_line_feed, AllAre, EndsComment, IsWord, IsNumber, quoted, Spells, BeginsWith, NothingBegins}
-use Rattle.az_text.proofs.Longest.{spelled_token_is_cut, quoted_only, NoDouble, single_longest, double_longest}
+use Rattle.az_text.specs.Tokens.{is_blank, is_word_byte, is_inner, is_before_line_feed, AllAre, EndsComment, quoted, Spells, BeginsWith, NothingBegins}
+use Rattle.az_text.proofs.Longest.{spelled_token_is_cut, NoDouble, single_longest, double_longest}
 use Rattle.az_text.proofs.Marks.{mark_of, mark_of-spelling, single_spelled, double_spelled}
 use Rattle.az_text.proofs.Runs.{Stops, run_passes, run_stops, run_only}
-use Rattle.az_text.proofs.Sorts.{sort_of, is_solid, sort, Starts, starts, same_sort}
+use Rattle.az_text.proofs.Sorts.{sort_of, is_solid, sort, starts, same_sort}
 
 -- the text begins so
 pub data Sound : List ℕ → Front → Type 0 where
@@ -81,10 +81,10 @@ sound_number b text digit =
     let begins = spelled_token_is_cut (Number value) digits rest spelled ends in
     let P : ℕ → Type 0 = λ k. Sound (b ∷ text) (number_or_wide (value_below (2 ^ 127) (take k (b ∷ text))) k) in
     let by : (t : Bool) → ltb value (2 ^ 127) ≡ t → Sound (b ∷ text) (number_or_wide (cond t (Some value) None) (suc n))
-      = λ t. elim t as (λ t. ltb value (2 ^ 127) ≡ t → Sound (b ∷ text) (number_or_wide (cond t (Some value) None) (suc n))) [
-        true ↦ λ below. sound_cut (Number value) n b text (prefix_len-le-length is_ascii_digit text) begins (ltb-true value (2 ^ 127) below)
+    = λ t. elim t as (λ t. ltb value (2 ^ 127) ≡ t → Sound (b ∷ text) (number_or_wide (cond t (Some value) None) (suc n))) [
+      | true ↦ λ below. sound_cut (Number value) n b text (prefix_len-le-length is_ascii_digit text) begins (ltb-true value (2 ^ 127) below)
       | false ↦ λ above. sound_wide n value b text begins (ltb-false value (2 ^ 127) above)
-      ] in
+    ] in
     subst P (sym len) (by (ltb value (2 ^ 127)) refl)
 
 -- neither a blank nor a slash
@@ -128,12 +128,12 @@ sound_comment (b ∷ text) =
     let len : suc (suc (length body)) ≡ 2 + n = omega (arith, body_len) in
     let whole : Sound (47 ∷ 47 ∷ text) (Between (2 + n)) = subst AtLength len (subst AtText (take-append-drop n text) cut) in
     let by : (t : Bool) → eqb b 47 ≡ t → Sound (47 ∷ b ∷ text) (cond t (Between (2 + n)) Nothing)
-      = λ t. elim t as (λ t. eqb b 47 ≡ t → Sound (47 ∷ b ∷ text) (cond t (Between (2 + n)) Nothing)) [
-        true ↦ λ is.
-            let AtByte : ℕ → Type 0 = λ x. Sound (47 ∷ x ∷ text) (Between (2 + n)) in
-            subst AtByte (sym (eqb-true b 47 is)) whole
+    = λ t. elim t as (λ t. eqb b 47 ≡ t → Sound (47 ∷ b ∷ text) (cond t (Between (2 + n)) Nothing)) [
+      | true ↦ λ is.
+          let AtByte : ℕ → Type 0 = λ x. Sound (47 ∷ x ∷ text) (Between (2 + n)) in
+          subst AtByte (sym (eqb-true b 47 is)) whole
       | false ↦ λ other. nothing (nothing_at_slash (b ∷ text) (λ rest same. let first : b ≡ 47 = cc in eqb-false b 47 other first))
-      ] in
+    ] in
     by (eqb b 47) refl
 
 inside : (text : List ℕ) (n : ℕ) → get_or text n 0 ≡ 34 → n < length text
@@ -175,20 +175,20 @@ sound_quoted text =
     let n = prefix_len is_inner text in
     let inner = take n text in
     let by : (t : Bool) → eqb (get_or text n 0) 34 ≡ t → Sound (34 ∷ text) (cond t (Cut (Quoted inner) (n + 2)) Nothing)
-      = λ t. elim t as (λ t. eqb (get_or text n 0) 34 ≡ t → Sound (34 ∷ text) (cond t (Cut (Quoted inner) (n + 2)) Nothing)) [
-        true ↦ λ is.
-            let closed = closed_by text (eqb-true _ 34 is) in
-            let after = closed.0 in
-            let spelled : Spells (Quoted inner) (quoted inner) = (run_passes is_inner text, refl) in
-            let begins = spelled_token_is_cut (Quoted inner) (quoted inner) after spelled (quoted_ends inner after) in
-            let cut : Sound (34 ∷ ((inner ++ 34 ∷ []) ++ after)) (Cut (Quoted inner) (suc (length (inner ++ 34 ∷ [])))) = a_token 34 (inner ++ 34 ∷ []) after begins tt in
-            let AtText : List ℕ → Type 0 = λ t. Sound (34 ∷ t) (Cut (Quoted inner) (suc (length (inner ++ 34 ∷ [])))) in
-            let AtLength : ℕ → Type 0 = λ k. Sound (34 ∷ text) (Cut (Quoted inner) k) in
-            let inner_len = length-take-le n text (prefix_len-le-length is_inner text) in
-            let len : suc (length (inner ++ 34 ∷ [])) ≡ n + 2 = omega (arith, inner_len, length_push inner 34) in
-            subst AtLength len (subst AtText (append_assoc inner (34 ∷ []) after ∙ sym closed.1) cut)
+    = λ t. elim t as (λ t. eqb (get_or text n 0) 34 ≡ t → Sound (34 ∷ text) (cond t (Cut (Quoted inner) (n + 2)) Nothing)) [
+      | true ↦ λ is.
+          let closed = closed_by text (eqb-true _ 34 is) in
+          let after = closed.0 in
+          let spelled : Spells (Quoted inner) (quoted inner) = (run_passes is_inner text, refl) in
+          let begins = spelled_token_is_cut (Quoted inner) (quoted inner) after spelled (quoted_ends inner after) in
+          let cut : Sound (34 ∷ ((inner ++ 34 ∷ []) ++ after)) (Cut (Quoted inner) (suc (length (inner ++ 34 ∷ [])))) = a_token 34 (inner ++ 34 ∷ []) after begins tt in
+          let AtText : List ℕ → Type 0 = λ t. Sound (34 ∷ t) (Cut (Quoted inner) (suc (length (inner ++ 34 ∷ [])))) in
+          let AtLength : ℕ → Type 0 = λ k. Sound (34 ∷ text) (Cut (Quoted inner) k) in
+          let inner_len = length-take-le n text (prefix_len-le-length is_inner text) in
+          let len : suc (length (inner ++ 34 ∷ [])) ≡ n + 2 = omega (arith, inner_len, length_push inner 34) in
+          subst AtLength len (subst AtText (append_assoc inner (34 ∷ []) after ∙ sym closed.1) cut)
       | false ↦ λ other. nothing (quoted_open text (eqb-false _ 34 other))
-      ] in
+    ] in
     by (eqb (get_or text n 0) 34) refl
 
 -- a mark begins where no longer mark does
@@ -234,10 +234,10 @@ record MarkByte (b : ℕ) : Type 0 where
 sound_single : (b : ℕ) (rest : List ℕ) → MarkByte b → NoDouble b rest → Sound (b ∷ rest) (single_front b)
 sound_single b rest byte double =
     let by : (o : Option MarkKind) → lookup single_marks b ≡ o → Sound (b ∷ rest) (mark_or_nothing o 1 Nothing)
-      = λ o. elim o as (λ o. lookup single_marks b ≡ o → Sound (b ∷ rest) (mark_or_nothing o 1 Nothing)) [
-        Some kind ↦ λ found. a_token b [] rest (mark_begins kind (b ∷ []) rest (sym (single_spelled b kind found)) (λ mark. single_longest b rest double mark)) tt
+    = λ o. elim o as (λ o. lookup single_marks b ≡ o → Sound (b ∷ rest) (mark_or_nothing o 1 Nothing)) [
+      | Some kind ↦ λ found. a_token b [] rest (mark_begins kind (b ∷ []) rest (sym (single_spelled b kind found)) (λ mark. single_longest b rest double mark)) tt
       | None ↦ λ none. nothing (nothing_at b rest byte.blank (λ e _ _. byte.slash e) (λ kind bytes more sorted. no_mark b rest none double kind bytes more (sorted ∙ byte.sorted)))
-      ] in
+    ] in
     by (lookup single_marks b) refl
 
 sound_mark : (b : ℕ) (rest : List ℕ) → MarkByte b → Sound (b ∷ rest) (mark_front (b ∷ rest))
@@ -245,10 +245,10 @@ unfolding mark_front
 sound_mark b [] byte = sound_single b [] byte tt
 sound_mark b (c ∷ rest) byte =
     let by : (o : Option MarkKind) → lookup_two double_marks b c ≡ o → Sound (b ∷ c ∷ rest) (mark_or_nothing o 2 (single_front b))
-      = λ o. elim o as (λ o. lookup_two double_marks b c ≡ o → Sound (b ∷ c ∷ rest) (mark_or_nothing o 2 (single_front b))) [
-        Some kind ↦ λ found. a_token b (c ∷ []) rest (mark_begins kind (b ∷ c ∷ []) rest (sym (double_spelled b c kind found)) (λ mark. double_longest b c rest mark)) tt
+    = λ o. elim o as (λ o. lookup_two double_marks b c ≡ o → Sound (b ∷ c ∷ rest) (mark_or_nothing o 2 (single_front b))) [
+      | Some kind ↦ λ found. a_token b (c ∷ []) rest (mark_begins kind (b ∷ c ∷ []) rest (sym (double_spelled b c kind found)) (λ mark. double_longest b c rest mark)) tt
       | None ↦ λ none. sound_single b (c ∷ rest) byte none
-      ] in
+    ] in
     by (lookup_two double_marks b c) refl
 
 mark_byte : (b : ℕ) → is_blank b ≡ false → is_ascii_alphabetic b ≡ false → is_ascii_digit b ≡ false → eqb b 34 ≡ false → eqb b 47 ≡ false → MarkByte b

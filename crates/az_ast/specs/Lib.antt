@@ -1,8 +1,10 @@
 pub mod Certified
+pub mod Chosen
 pub mod FirstForm
 pub mod Meaning
 pub mod Operators
 pub mod OutputRows
+pub mod Plain
 pub mod Points
 pub mod System
 pub mod Tables

@@ -3,3 +3,4 @@ pub mod Ramp
 pub mod ReadLemmas
 pub mod TableLemmas
 pub mod Terms
+pub mod ValueLemmas

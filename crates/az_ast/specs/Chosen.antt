@@ -53,3 +53,9 @@ abbrev pub ReadIs : System → Tables → ℕ → List ℤ → List ℤ → Read
 ReadIs p tables x params k (read.Answer f) =
     (depth : ℕ) → FoundIs (λ v. ReadTo p tables depth x params k v) (ReadStopsTo p depth x params k) f
 ReadIs p tables x params k (read.Body e) = LeadsToBody p x (params ++ k) e.now
+
+-- a function of the value that was found
+abbrev pub found_map : (ℤ → ℤ) → Found → Found
+found_map f (found.Value v) = found.Value (f v)
+found_map f found.Nothing = found.Nothing
+found_map f found.Stopped = found.Stopped

@@ -8,10 +8,11 @@
 -- The columns of a point are the parameters, the equation's indices, and the extra indices of the
 -- enclosing reductions from outside to inside. So an access `X[f]` at `z` reads X at the parameters of
 -- `z`, its first columns, and the indices `f(z)`.
-use Rattle.std.specs.Prelude.{◌≡◌, ℕ, zero, suc, ℤ, neg_ℤ, List, [], ◌∷◌, ◌++◌, length, take, ◌⊎◌, fold, slice_get, find, ◌==◌, option_map, Option, Some, None, MatchOption}
+use Rattle.std.specs.Prelude.{◌≡◌, ℕ, zero, suc, ℤ, pos, List, [], ◌∷◌, ◌++◌, length, take, ◌⊎◌, fold, slice_get, find, ◌==◌, option_map, Option, Some, None, MatchOption}
 use Rattle.std.specs.List.{AllZip}
 use Rattle.az_lin.specs.Affine.{Union, value_at, image_of, HoldsSome}
 use Rattle.az_ast.specs.declared.op.Op.{Op}
+use Rattle.az_ast.specs.declared.op.Op.TheVariants.{Sub}
 use Rattle.az_ast.specs.declared.program.Role.{Role}
 use Rattle.az_ast.specs.declared.program.Role.TheVariants.{Input, Output, Local}
 use Rattle.az_ast.specs.declared.program.Equation.{Equation}
@@ -45,7 +46,7 @@ module _ (params : ℕ) (reads : Reads) where
     TermGives (constant c) z v = v ≡ c
     TermGives (index row) z v = v ≡ wrapped (value_at row z)
     TermGives (access variable f) z v = reads variable (take params z) (image_of f z) v
-    TermGives (negation e) z v = (w : ℤ) × TermGives e z w × (v ≡ wrapped (neg_ℤ w))
+    TermGives (negation e) z v = (w : ℤ) × TermGives e z w × (v ≡ applied Sub (pos 0) w)
     TermGives (binary op a b) z v = (x : ℤ) × (y : ℤ) × TermGives a z x × TermGives b z y × (v ≡ applied op x y)
     TermGives (cases branches) z v = ChoiceGives branches z v
     TermGives (reduction op extra domain e) z v = FoldGives op extra domain (λ y w. TermGives e y w) z v

@@ -3,8 +3,8 @@
 
 ghost use Rattle.std.specs.Prelude.{◌≡◌, ◌≤◌, ℕ, ℤ, length, All, IsTrue, ◌↔◌, ◌++◌, take, drop, IfOk, IfErr, Contains, slice_get, map};
 ghost use Rattle.std.specs.Option.{option_copied};
-ghost use Rattle.az_ast.specs.Chosen.{ChosenIs, FoundIs, ReadIs};
-ghost use Rattle.az_ast.specs.Operators.{wrapped};
+ghost use Rattle.az_ast.specs.Chosen.{ChosenIs, FoundIs, ReadIs, found_map};
+ghost use Rattle.az_ast.specs.Operators.{wrapped, applied};
 ghost use Rattle.az_lin.specs.Affine.{value_at};
 ghost use Rattle.az_ast.specs.Meaning.{equation_of, ValueTo};
 ghost use Rattle.az_ast.specs.Plain.{IsReadable, IsUnreadable, StopsTo};
@@ -13,7 +13,7 @@ ghost use Rattle.az_ast.specs.Term.{term};
 ghost use Rattle.az_ast.specs.declared.fault.ShapeFault.TheVariants.{Memory};
 
 use crate::point::{holds, is_readable, point_read};
-use crate::{Branch, Equation, Expr, Inputs, Program, Role, ShapeFault, Variable, apply_op, wrap};
+use crate::{Branch, Equation, Expr, Inputs, Op, Program, Role, ShapeFault, Variable, apply_op, wrap};
 use az_lin::Row;
 use std::alloc::Global;
 
@@ -111,5 +111,70 @@ fn resolve<'a>(program: &'a Program, inputs: &Inputs, x: u32, point: &[i128]) ->
     match equation_of(program.equations(), x) {
         Some(equation) => Read::Body(&equation.body),
         None => Read::Answer(Found::Nothing),
+    }
+}
+
+/// The operator's value at the left operand and what was found for the right one.
+fn applied_to(op: Op, left: i64, right: Found) -> Found
+    ensures { result ≡ found_map (applied op left) right }
+{
+    match right {
+        Found::Value(v) => Found::Value(apply_op(op, left, v)),
+        other => other,
+    }
+}
+
+/// The value of the expression at the point, with at most `depth` nested equations unfolded.
+pub fn value_to(
+    alloc: Global,
+    program: &Program,
+    inputs: &Inputs,
+    depth: u32,
+    e: &Expr,
+    z: &[i128],
+) -> Result<Found, ShapeFault>
+    ensures ok { IfOk result (FoundIs (λ v. ValueTo program.now inputs.now depth (term e.now) z.now v) (StopsTo program.now depth (term e.now) z.now)) }
+    ensures cause { IfErr result (λ fault. fault ≡ Memory) }
+{
+    let params = program.params().len();
+    match e {
+        Expr::Const(v) => Ok(Found::Value(*v)),
+        Expr::Index(row) => Ok(index_value(params, row, z)),
+        Expr::Access(x, f) => {
+            if !is_readable(params, f.width(), z) {
+                return Ok(Found::Stopped);
+            }
+            let point = point_read(alloc, params, f, z)?;
+            match resolve(program, inputs, *x, &point) {
+                Read::Answer(found) => Ok(found),
+                Read::Body(body) => {
+                    if depth == 0 {
+                        Ok(Found::Nothing)
+                    } else {
+                        value_to(alloc, program, inputs, depth - 1, body, &point)
+                    }
+                }
+            }
+        }
+        Expr::Neg(e) => {
+            let found = value_to(alloc, program, inputs, depth, e.get(), z)?;
+            Ok(applied_to(Op::Sub, 0, found))
+        }
+        Expr::Bin(op, a, b) => match value_to(alloc, program, inputs, depth, a.get(), z)? {
+            Found::Value(left) => {
+                let right = value_to(alloc, program, inputs, depth, b.get(), z)?;
+                Ok(applied_to(*op, left, right))
+            }
+            other => Ok(other),
+        },
+        Expr::Cases(branches) => match first_holding(params, branches.as_slice(), z) {
+            Chosen::At(place) => {
+                let branch = &branches.as_slice()[place];
+                value_to(alloc, program, inputs, depth, &branch.body, z)
+            }
+            Chosen::Nowhere => Ok(Found::Nothing),
+            Chosen::Stopped => Ok(Found::Stopped),
+        },
+        Expr::Reduce(_, _, _, _) => Ok(Found::Stopped),
     }
 }

@@ -1,4 +1,5 @@
 pub mod MapLemmas
+pub mod PlainSteps
 pub mod Ramp
 pub mod ReadLemmas
 pub mod TableLemmas

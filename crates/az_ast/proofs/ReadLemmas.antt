@@ -88,7 +88,7 @@ module _ (p : System) (tables : Tables) (x : ℕ) (variable : Variable) (declare
     pub body-stops : (bodies : Term → List ℤ → Type 0) → bodies (term equation.body) (params ++ k) → ReadStops p bodies x params k
     body-stops bodies s =
         at-MatchOption (Stops bodies) (slice_get p.variables x) variable declared
-          (inr (RoleGives-from_body variable.role _ _ no_input (at-MatchOption (λ body. bodies body (params ++ k)) (body_of p.equations x) (term equation.body) (body_is equation found) s)))
+        (inr (RoleGives-from_body variable.role _ _ no_input (at-MatchOption (λ body. bodies body (params ++ k)) (body_of p.equations x) (term equation.body) (body_is equation found) s)))
 
 -- a read of what is not declared has no value
 pub undeclared-none : (p : System) (tables : Tables) (x : ℕ) (params k : List ℤ) (bodies : Term → Values) (v : ℤ) → slice_get p.variables x ≡ None → ReadGives p tables bodies x params k v → ⊥

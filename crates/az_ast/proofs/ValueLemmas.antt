@@ -95,7 +95,7 @@ module _ (p : System) (tables : Tables) (x : ℕ) (params k : List ℤ) (e : Exp
       body-gives p tables x leads.variable leads.declared params k leads.equation leads.no_input leads.found (ValueBelow p tables (suc depth)) v leads.held (subst (λ t. ValueTo p tables depth t (params ++ k) v) body_term g)
   found-body depth found.Nothing g =
       λ v r. g v (subst (λ t. ValueTo p tables depth t (params ++ k) v) (sym body_term)
-        (gives-body p tables x leads.variable leads.declared params k leads.equation leads.no_input leads.found (ValueBelow p tables (suc depth)) v r))
+      (gives-body p tables x leads.variable leads.declared params k leads.equation leads.no_input leads.found (ValueBelow p tables (suc depth)) v r))
   found-body depth found.Stopped g =
       body-stops p tables x leads.variable leads.declared params k leads.equation leads.no_input leads.found (StopsBelow p (suc depth)) (subst (λ t. StopsTo p depth t (params ++ k)) body_term g)
 

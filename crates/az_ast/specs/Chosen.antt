@@ -29,8 +29,8 @@ abbrev pub NoneBefore : ℕ → List Branch → List ℤ → Type 0
 NoneBefore place branches z = (k : ℕ) (branch : Branch) → k < place → slice_get branches k ≡ Some branch → HoldsSome branch.domain z → ⊥
 
 abbrev pub ChosenIs : ℕ → List Branch → List ℤ → Chosen → Type 0
-ChosenIs params branches z (chosen.At place) =
-    (branch : Branch) × (slice_get branches place ≡ Some branch) × HoldsSome branch.domain z × NoneBefore place branches z
+ChosenIs params branches z (chosen.At branch) =
+    (place : ℕ) × (slice_get branches place ≡ Some branch.now) × HoldsSome branch.now.domain z × NoneBefore place branches z
 ChosenIs params branches z chosen.Nowhere = NoneBefore (length branches) branches z
 ChosenIs params branches z chosen.Stopped = (k : ℕ) × (branch : Branch) × (slice_get branches k ≡ Some branch) × IsUnreadable params branch.domain.width z × NoneBefore k branches z
 

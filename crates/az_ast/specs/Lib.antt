@@ -2,6 +2,7 @@ pub mod Certified
 pub mod Chosen
 pub mod FirstForm
 pub mod Meaning
+pub mod Nodes
 pub mod Operators
 pub mod OutputRows
 pub mod Plain

@@ -38,7 +38,7 @@ module _ (params : ℕ) (reads : ReadsStop) where
 abbrev pub ReadStops : System → (Term → List ℤ → Type 0) → ReadsStop
 ReadStops p bodies x params k =
     MatchOption (slice_get p.variables x) ⊥ (λ variable.
-      IsUnreadable (length p.params) variable.domain.width (params ++ k) ⊎ RoleGives variable.role ⊥ (MatchOption (body_of p.equations x) ⊥ (λ body. bodies body (params ++ k))))
+    IsUnreadable (length p.params) variable.domain.width (params ++ k) ⊎ RoleGives variable.role ⊥ (MatchOption (body_of p.equations x) ⊥ (λ body. bodies body (params ++ k))))
 
 abbrev pub StopsBelow : System → ℕ → Term → List ℤ → Type 0
 StopsBelow p zero e z = ⊥

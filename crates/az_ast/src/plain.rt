@@ -13,7 +13,9 @@ ghost use Rattle.az_ast.specs.Term.{term};
 ghost use Rattle.az_ast.specs.declared.fault.ShapeFault.TheVariants.{Memory};
 
 use crate::point::{holds, is_readable, point_read};
-use crate::{Branch, Equation, Expr, Inputs, Op, Program, Role, ShapeFault, Variable, apply_op, wrap};
+use crate::{
+    Branch, Equation, Expr, Inputs, Op, Program, Role, ShapeFault, Variable, apply_op, wrap,
+};
 use az_lin::Row;
 use std::alloc::Global;
 
@@ -28,8 +30,8 @@ pub enum Found {
 
 /// The first branch whose domain holds the point.
 #[derive(Drop)]
-enum Chosen {
-    At(usize),
+enum Chosen<'a> {
+    At(&'a Branch),
     Nowhere,
     Stopped,
 }
@@ -51,15 +53,15 @@ fn index_value(params: usize, row: &Row, z: &[i128]) -> Found
     }
 }
 
-fn first_holding(params: usize, branches: &[Branch], z: &[i128]) -> Chosen
+fn first_holding<'a>(params: usize, branches: &'a [Branch], z: &[i128]) -> Chosen<'a>
     ensures { ChosenIs params branches.now z.now result }
 {
-    for (place, branch) in branches.iter().enumerate() {
+    for branch in branches {
         if !is_readable(params, branch.domain.width(), z) {
             return Chosen::Stopped;
         }
         if holds(&branch.domain, z) {
-            return Chosen::At(place);
+            return Chosen::At(branch);
         }
     }
     Chosen::Nowhere
@@ -168,10 +170,7 @@ pub fn value_to(
             other => Ok(other),
         },
         Expr::Cases(branches) => match first_holding(params, branches.as_slice(), z) {
-            Chosen::At(place) => {
-                let branch = &branches.as_slice()[place];
-                value_to(alloc, program, inputs, depth, &branch.body, z)
-            }
+            Chosen::At(branch) => value_to(alloc, program, inputs, depth, &branch.body, z),
             Chosen::Nowhere => Ok(Found::Nothing),
             Chosen::Stopped => Ok(Found::Stopped),
         },

@@ -44,7 +44,12 @@ pub fn holds(domain: &Domain, z: &[i128]) -> bool
 }
 
 /// The point that an access reads: the parameters of `z`, and the map's image of it.
-pub fn point_read(alloc: Global, params: usize, f: &Map, z: &[i128]) -> Result<Vec<i128>, ShapeFault>
+pub fn point_read(
+    alloc: Global,
+    params: usize,
+    f: &Map,
+    z: &[i128],
+) -> Result<Vec<i128>, ShapeFault>
     requires readable { IsReadable params f.now.width z.now }
     ensures ok { IfOk result (λ point. point.items ≡ take params z.now ++ image_of f.now z.now) }
     ensures cause { IfErr result (λ fault. fault ≡ Memory) }

@@ -30,7 +30,7 @@ returns-then-not-is_readable c =
     let declared : slice_get p.variables c.args.x ≡ Some c.in-Some.variable.now = subst (λ vs. slice_get vs c.args.x ≡ Some c.in-Some.variable.now) c.variables.ensures (sym c.in-Some.ensures) in
     let unreadable : IsUnreadable (length p.params) c.in-Some.variable.now.domain.width c.args.point.now = search rules in
     λ depth. unreadable-stops p c.args.inputs.now c.args.x c.in-Some.variable.now declared (take (length p.params) c.args.point.now) (drop (length p.params) c.args.point.now) (StopsBelow p depth)
-      (subst (λ z. IsUnreadable (length p.params) c.in-Some.variable.now.domain.width z) (split p c.args.point.now) unreadable)
+    (subst (λ z. IsUnreadable (length p.params) c.in-Some.variable.now.domain.width z) (split p c.args.point.now) unreadable)
 
 pub returns-then-not-holds : goal.returns-then-not-holds
 returns-then-not-holds c =
@@ -38,7 +38,7 @@ returns-then-not-holds c =
     let declared : slice_get p.variables c.args.x ≡ Some c.in-Some.variable.now = subst (λ vs. slice_get vs c.args.x ≡ Some c.in-Some.variable.now) c.variables.ensures (sym c.in-Some.ensures) in
     let not_held : HoldsSome c.in-Some.variable.now.domain c.args.point.now → ⊥ = search rules in
     λ depth v g. not_held (subst (λ z. HoldsSome c.in-Some.variable.now.domain z) (take-append-drop (length p.params) c.args.point.now)
-      (read-parts p c.args.inputs.now c.args.x c.in-Some.variable.now declared (take (length p.params) c.args.point.now) (drop (length p.params) c.args.point.now) (ValueBelow p c.args.inputs.now depth) v g).0)
+    (read-parts p c.args.inputs.now c.args.x c.in-Some.variable.now declared (take (length p.params) c.args.point.now) (drop (length p.params) c.args.point.now) (ValueBelow p c.args.inputs.now depth) v g).0)
 
 pub returns-then-eq : goal.returns-then-eq
 returns-then-eq c =
@@ -48,7 +48,7 @@ returns-then-eq c =
     let input : IsInput c.in-Some.variable.now.role = search rules in
     let given : FoundIs (λ v. InputGives c.args.inputs.now c.args.x (drop (length p.params) c.args.point.now) v) ⊥ c.input_value.result = search rules in
     λ depth. input_found p c.args.inputs.now c.args.x c.in-Some.variable.now declared (take (length p.params) c.args.point.now) (drop (length p.params) c.args.point.now)
-      input (subst (λ z. HoldsSome c.in-Some.variable.now.domain z) (split p c.args.point.now) held) depth c.input_value.result given
+    input (subst (λ z. HoldsSome c.in-Some.variable.now.domain z) (split p c.args.point.now) held) depth c.input_value.result given
 
 pub returns-in-Some-equation_of : goal.returns-in-Some-equation_of
 returns-in-Some-equation_of c =
@@ -63,7 +63,8 @@ returns-in-Some-equation_of c =
       no_input = no_input;
       equation = c.in-Some-equation_of.equation.now;
       found = subst (λ es. equation_of es c.args.x ≡ Some c.in-Some-equation_of.equation.now) c.equations.ensures (sym c.in-Some-equation_of.ensures);
-      body = refl }
+      body = refl;
+    }
 
 pub returns-in-None : goal.returns-in-None
 returns-in-None c =

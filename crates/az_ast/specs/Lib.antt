@@ -1,8 +1,11 @@
 pub mod Certified
+pub mod Chosen
 pub mod FirstForm
 pub mod Meaning
+pub mod Nodes
 pub mod Operators
 pub mod OutputRows
+pub mod Plain
 pub mod Points
 pub mod System
 pub mod Tables

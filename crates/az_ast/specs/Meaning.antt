@@ -8,10 +8,11 @@
 -- The columns of a point are the parameters, the equation's indices, and the extra indices of the
 -- enclosing reductions from outside to inside. So an access `X[f]` at `z` reads X at the parameters of
 -- `z`, its first columns, and the indices `f(z)`.
-use Rattle.std.specs.Prelude.{◌≡◌, ℕ, zero, suc, ℤ, neg_ℤ, List, [], ◌∷◌, ◌++◌, length, take, ◌⊎◌, fold, slice_get, nat_eq, cond, Option, Some, None, MatchOption}
+use Rattle.std.specs.Prelude.{◌≡◌, ℕ, zero, suc, ℤ, pos, List, [], ◌∷◌, ◌++◌, length, take, ◌⊎◌, fold, slice_get, find, ◌==◌, option_map, Option, Some, None, MatchOption}
 use Rattle.std.specs.List.{AllZip}
 use Rattle.az_lin.specs.Affine.{Union, value_at, image_of, HoldsSome}
 use Rattle.az_ast.specs.declared.op.Op.{Op}
+use Rattle.az_ast.specs.declared.op.Op.TheVariants.{Sub}
 use Rattle.az_ast.specs.declared.program.Role.{Role}
 use Rattle.az_ast.specs.declared.program.Role.TheVariants.{Input, Output, Local}
 use Rattle.az_ast.specs.declared.program.Equation.{Equation}
@@ -45,7 +46,7 @@ module _ (params : ℕ) (reads : Reads) where
     TermGives (constant c) z v = v ≡ c
     TermGives (index row) z v = v ≡ wrapped (value_at row z)
     TermGives (access variable f) z v = reads variable (take params z) (image_of f z) v
-    TermGives (negation e) z v = (w : ℤ) × TermGives e z w × (v ≡ wrapped (neg_ℤ w))
+    TermGives (negation e) z v = (w : ℤ) × TermGives e z w × (v ≡ applied Sub (pos 0) w)
     TermGives (binary op a b) z v = (x : ℤ) × (y : ℤ) × TermGives a z x × TermGives b z y × (v ≡ applied op x y)
     TermGives (cases branches) z v = ChoiceGives branches z v
     TermGives (reduction op extra domain e) z v = FoldGives op extra domain (λ y w. TermGives e y w) z v
@@ -54,10 +55,12 @@ module _ (params : ℕ) (reads : Reads) where
     ChoiceGives none z v = ⊥
     ChoiceGives (choice domain e rest) z v = (HoldsSome domain z × TermGives e z v) ⊎ ((HoldsSome domain z → ⊥) × ChoiceGives rest z v)
 
--- the body of a variable's equation: the first with its number
+-- a variable's equation, the first with its number, and its body
+abbrev pub equation_of : List Equation → ℕ → Option Equation
+equation_of equations x = find (λ equation. equation.variable == x) equations
+
 abbrev pub body_of : List Equation → ℕ → Option Term
-body_of [] x = None
-body_of (equation ∷ rest) x = cond (nat_eq equation.variable x) (Some (term equation.body)) (body_of rest x)
+body_of equations x = option_map (λ equation. term equation.body) (equation_of equations x)
 
 -- what a read has, if bodies have the given values: nothing outside the variable's domain, for an input
 -- the value of its table, and for an output or local the value of its equation's body
@@ -72,14 +75,19 @@ ReadGives p tables bodies x params k v =
     HoldsSome variable.domain (params ++ k) ×
     RoleGives variable.role (InputGives tables x k v) (MatchOption (body_of p.equations x) ⊥ (λ body. bodies body (params ++ k) v)))
 
--- the value of an expression with at most so many nested equations unfolded, and of a read
-abbrev pub ValueTo : System → Tables → ℕ → Term → Values
-ValueTo p tables zero e z v = TermGives (length p.params) (ReadGives p tables (λ _ _ _. ⊥)) e z v
-ValueTo p tables (suc depth) e z v = TermGives (length p.params) (ReadGives p tables (ValueTo p tables depth)) e z v
+-- the value of an expression with fewer than so many equations unfolded, itself counted as one: none
+-- with 0, and with one more if its reads have values with one less
+abbrev pub ValueBelow : System → Tables → ℕ → Term → Values
+ValueBelow p tables zero e z v = ⊥
+ValueBelow p tables (suc depth) e z v =
+    TermGives (length p.params) (ReadGives p tables (ValueBelow p tables depth)) e z v
 
+-- the value of a read, and of an expression, with at most so many nested equations unfolded
 abbrev pub ReadTo : System → Tables → ℕ → Reads
-ReadTo p tables zero = ReadGives p tables (λ _ _ _. ⊥)
-ReadTo p tables (suc depth) = ReadGives p tables (ValueTo p tables depth)
+ReadTo p tables depth = ReadGives p tables (ValueBelow p tables depth)
+
+abbrev pub ValueTo : System → Tables → ℕ → Term → Values
+ValueTo p tables depth = TermGives (length p.params) (ReadTo p tables depth)
 
 -- variable `x` means `v` at indices `k`, for these parameters and tables
 abbrev pub Means : System → Tables → List ℤ → ℕ → List ℤ → ℤ → Type 0

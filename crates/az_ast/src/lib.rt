@@ -7,6 +7,8 @@ mod expr;
 mod fault;
 mod inputs;
 mod op;
+mod plain;
+mod point;
 mod program;
 mod reason;
 mod table;

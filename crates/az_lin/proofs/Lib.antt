@@ -3,3 +3,4 @@ pub mod Dot
 pub mod Integers
 pub mod DivisorLaws
 pub mod WideSums
+pub mod StepLaws

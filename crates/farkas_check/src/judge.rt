@@ -1,0 +1,1 @@
+//! Whether a derivation refutes a system.

@@ -1,0 +1,1 @@
+//! Whether a rational point satisfies a system.

@@ -1,8 +1,8 @@
 -- What an answer of the judge means: each derivation is accepted or has a first step that fails.
-use Rattle.std.specs.Prelude.{◌≡◌, ℕ, List, Result, Ok, Err, ℤ, pos, ◌≤ℤ◌, ◌<ℤ◌, unsigned_abs}
+use Rattle.std.specs.Prelude.{◌≡◌, ℕ, ◌-◌, ◌<◌, List, length, Result, Ok, Err, ℤ, pos, ◌≤ℤ◌, ◌<ℤ◌, unsigned_abs}
 use Rattle.az_lin.specs.Affine.{Affine}
 use Rattle.az_lin.specs.CommonDivisor.{DividesEach}
-use Rattle.az_lin.specs.Derivation.{IsStep, IsExactStep, IsDerivation, IsFirstBad}
+use Rattle.az_lin.specs.Derivation.{IsStep, IsExactStep, IsDerivation, IsFirstBad, IsContradiction, row_at}
 use Rattle.az_lin.specs.declared.step.Step.{Step}
 use Rattle.farkas_check.specs.declared.fault.CheckFault.{CheckFault}
 use Rattle.farkas_check.specs.declared.fault.CheckFault.TheVariants.{BadStep, Memory}
@@ -22,6 +22,10 @@ pub record HasGoodSigns (step : Step) : Type 0 where
 abbrev pub DividesBy : Rule → ℕ → Affine → Type 0
 DividesBy Rounded d row = DividesEach d row.coefs
 DividesBy Exact d row = DividesEach d row.coefs × (d ∣ unsigned_abs row.konst)
+
+pub record IsContradictionLast (rows : List Affine) : Type 0 where
+  pub some : 0 < length rows
+  pub last : IsContradiction (row_at rows (length rows - 1))
 
 -- accepted, or refused at the first step that isn't good; want of memory says nothing
 abbrev pub IsVerdict : (List Affine → Step → Type 0) → List Affine → List Step → Result (Unit {0}) CheckFault → Type 0

@@ -10,7 +10,4 @@ mod judge;
 mod next_row;
 mod satisfy;
 
-
-
-
 pub use fault::CheckFault;

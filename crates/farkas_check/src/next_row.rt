@@ -87,6 +87,7 @@ pub(crate) fn next_row(
     requires { All (HasWidth system.now.width) made.now }
     ensures exact { IfOk result (λ row. SomeIff row
         (IsGood rule (system.now.rows ++ made.now) step.now) (row_of (system.now.rows ++ made.now) step.now)) }
+    ensures width { IfOk result (λ row. IfSome row (HasWidth system.now.width)) }
     ensures cause { IfErr result (λ fault. fault ≡ Memory) }
 {
     if !has_good_signs(step) {

@@ -2,6 +2,7 @@ use Rattle.std.proofs.Common.{◌≡◌, ◌++◌, ◌∙◌, ap, ℤ, unsigned_
 use Rattle.std.proofs.lemmas.Int.{to_z-of_z}
 use Rattle.std.specs.Int.{w128}
 use Rattle.farkas_check.proofs.Steps.{Names, good_from_tests, row_from_tests, bad_from_signs, bad_from_left, bad_from_right, bad_from_range, bad_from_division, unsigned_abs-positive}
+use Rattle.farkas_check.proofs.Soundness.{quotient_width}
 use Rattle.farkas_check.proofs.next_row.next_row.Goals as goal
 
 pub returns-then-not-has_good_signs-clause-exact : goal.returns-then-not-has_good_signs-clause-exact
@@ -73,3 +74,8 @@ returns-clause-exact c =
     (good_from_tests c.args.rule (c.args.system.now.rows ++ c.args.made.now) c.args.step.now _ _ _ _ c.in-Ok-Some.sum c.unsigned_abs.result size signs
       c.in-Some.ensures.found c.in-Some-row_view.ensures.found named some.0 some.1 (c.divides_row.ensures.0 c.if-not-divides_row.false),
      c.divided.ensures ∙ row_from_tests (c.args.system.now.rows ++ c.args.made.now) c.args.step.now _ _ _ _ c.in-Ok-Some.sum _ (to_z-of_z w128 c.args.step.now.g g_fits) named some.1)
+
+pub returns-clause-width : goal.returns-clause-width
+returns-clause-width c =
+    let some = rw c.in-Ok-Some.field-0-is at c.in-Ok-Some.ensures.exact in
+    quotient_width c.args.system.now.width _ _ _ _ _ c.in-Ok-Some.sum c.divided.result c.in-Some.ensures.width c.in-Some-row_view.ensures.width some.1 c.divided.ensures

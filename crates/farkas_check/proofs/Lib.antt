@@ -2,3 +2,4 @@ pub mod Divisors
 pub mod Steps
 pub mod Derivations
 pub mod Soundness
+pub mod Products

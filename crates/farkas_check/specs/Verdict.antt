@@ -3,7 +3,9 @@ use Rattle.std.specs.Prelude.{◌≡◌, ℕ, ◌-◌, ◌<◌, List, length, Re
 use Rattle.az_lin.specs.Affine.{Affine}
 use Rattle.az_lin.specs.CommonDivisor.{DividesEach}
 use Rattle.az_lin.specs.Derivation.{IsStep, IsExactStep, IsDerivation, IsFirstBad, IsContradiction, row_at}
+use Rattle.az_lin.specs.RationalPoint.{IsWideAt, value_over}
 use Rattle.az_lin.specs.declared.step.Step.{Step}
+use Rattle.az_lin.specs.declared.step.RatPoint.{RatPoint}
 use Rattle.farkas_check.specs.declared.fault.CheckFault.{CheckFault}
 use Rattle.farkas_check.specs.declared.fault.CheckFault.TheVariants.{BadStep, Memory}
 use Rattle.farkas_check.specs.declared.next_row.Rule.{Rule}
@@ -32,3 +34,8 @@ abbrev pub IsVerdict : (List Affine → Step → Type 0) → List Affine → Lis
 IsVerdict Good rows steps (Ok _) = IsDerivation Good rows steps
 IsVerdict Good rows steps (Err (BadStep number)) = IsFirstBad Good rows steps number
 IsVerdict Good rows steps (Err Memory) = Unit {0}
+
+-- what a point owes to one row of a system
+pub record IsMet (point : RatPoint) (row : Affine) : Type 0 where
+  pub in_range : IsWideAt point row
+  pub satisfied : pos 0 ≤ℤ value_over row point

@@ -1,6 +1,7 @@
 //! Whether a derivation refutes a system.
 
-ghost use Rattle.std.specs.Prelude.{◌≡◌, ◌↔◌, IsTrue};
+ghost use Rattle.std.specs.Prelude.{◌≡◌, ◌↔◌, All, IsTrue, List, OnOk, ℤ};
+ghost use Rattle.az_lin.specs.Affine.{HasWidth, Holds};
 ghost use Rattle.az_lin.specs.Derivation.{IsStep, IsExactStep, IsContradiction};
 ghost use Rattle.farkas_check.specs.Verdict.{IsContradictionLast, IsGood, IsVerdict};
 
@@ -51,4 +52,29 @@ fn judge(
         });
     }
     Ok(())
+}
+
+/// Whether the derivation refutes the system, where each step may round its constant down.
+pub fn check(
+    alloc: Global,
+    system: &Conj,
+    derivation: &Derivation,
+) -> Result<(), CheckFault>
+    ensures verdict { IsVerdict IsStep system.now.rows derivation.now.steps result }
+    ensures refutes { OnOk result ((z : List ℤ) → ¬ Holds system.now z) }
+{
+    judge(alloc, Rule::Rounded, system, derivation)
+}
+
+/// Whether the derivation refutes the system by the rule of version 1, where each step divides its
+/// constant exactly.
+pub fn check_exact(
+    alloc: Global,
+    system: &Conj,
+    derivation: &Derivation,
+) -> Result<(), CheckFault>
+    ensures verdict { IsVerdict IsExactStep system.now.rows derivation.now.steps result }
+    ensures refutes { OnOk result ((z : List ℤ) → ¬ Holds system.now z) }
+{
+    judge(alloc, Rule::Exact, system, derivation)
 }

@@ -11,3 +11,5 @@ mod next_row;
 mod satisfy;
 
 pub use fault::CheckFault;
+pub use judge::{check, check_exact};
+pub use satisfy::satisfies;

@@ -30,11 +30,11 @@ pub rows_after-more : (rows : List Affine) (steps : List Step) (i : ℕ) (step :
     → rows_after rows (take i steps) ≡ rows ++ made → row ≡ row_of (rows ++ made) step → more ≡ made ++ row ∷ [] → rows_after rows (take (i + 1) steps) ≡ rows ++ more
 rows_after-more rows steps i step made more row here is before row_is pushed =
     ap (rows_after rows) (taken_more steps i step here is)
-      ∙ rows_after-push rows (take i steps) step
-      ∙ ap (λ (rs : List Affine). rs ++ row_of rs step ∷ []) before
-      ∙ ap (λ (r : Affine). (rows ++ made) ++ r ∷ []) (sym row_is)
-      ∙ append_assoc rows made (row ∷ [])
-      ∙ ap (λ (rs : List Affine). rows ++ rs) (sym pushed)
+    ∙ rows_after-push rows (take i steps) step
+    ∙ ap (λ (rs : List Affine). rs ++ row_of rs step ∷ []) before
+    ∙ ap (λ (r : Affine). (rows ++ made) ++ r ∷ []) (sym row_is)
+    ∙ append_assoc rows made (row ∷ [])
+    ∙ ap (λ (rs : List Affine). rows ++ rs) (sym pushed)
 
 pub AllSteps-more : (Good : List Affine → Step → Type 0) (rows : List Affine) (steps : List Step) (i : ℕ) (step : Step) (made : List Affine) → i < length steps → step ≡ get_or steps i step
     → rows_after rows (take i steps) ≡ rows ++ made → AllSteps Good rows (take i steps) → Good (rows ++ made) step → AllSteps Good rows (take (i + 1) steps)
@@ -47,10 +47,13 @@ pub IsFirstBad-at : (Good : List Affine → Step → Type 0) (rows : List Affine
     → rows_after rows (take i steps) ≡ rows ++ made → AllSteps Good rows (take i steps) → ¬ Good (rows ++ made) step → IsFirstBad Good rows steps i
 IsFirstBad-at Good rows steps i step made here is before all bad = record {
   before = all;
-  bad = inl (here, λ d good.
-    let P : Step → Type 0 = λ s. Good (rows_after rows (take i steps)) s in
-    let Q : List Affine → Type 0 = λ rs. Good rs step in
-    bad (subst Q before (subst P (get_or_default steps i d step here ∙ sym is) good)));
+  bad = inl (
+    here,
+    λ d good.
+        let P : Step → Type 0 = λ s. Good (rows_after rows (take i steps)) s in
+        let Q : List Affine → Type 0 = λ rs. Good rs step in
+        bad (subst Q before (subst P (get_or_default steps i d step here ∙ sym is) good)),
+  );
 }
 
 -- the last row is the last that was made
@@ -65,7 +68,7 @@ ends_if_last rows steps made is count last =
     let empty : Affine = record { coefs = []; konst = pos 0 } in
     let some : 0 < length made = last.some in
     let same : row_at (rows_after rows steps) (length rows + length steps - 1) ≡ row_at made (length made - 1) =
-      last_row rows made (rows_after rows steps) (length steps) empty is count (omega arith) in
+    last_row rows made (rows_after rows steps) (length steps) empty is count (omega arith) in
     record { some = omega arith; last = subst IsContradiction (sym same) last.last }
 
 pub last_if_ends : (rows : List Affine) (steps : List Step) (made : List Affine) → rows_after rows steps ≡ rows ++ made → length made ≡ length steps
@@ -74,7 +77,7 @@ last_if_ends rows steps made is count ends =
     let empty : Affine = record { coefs = []; konst = pos 0 } in
     let some : 0 < length steps = ends.some in
     let same : row_at (rows_after rows steps) (length rows + length steps - 1) ≡ row_at made (length made - 1) =
-      last_row rows made (rows_after rows steps) (length steps) empty is count some in
+    last_row rows made (rows_after rows steps) (length steps) empty is count some in
     record { some = omega arith; last = subst IsContradiction same ends.last }
 
 pub IsFirstBad-end : (Good : List Affine → Step → Type 0) (rows : List Affine) (steps : List Step) → AllSteps Good rows steps → ¬ EndsInContradiction rows steps

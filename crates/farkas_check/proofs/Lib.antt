@@ -3,3 +3,5 @@ pub mod Steps
 pub mod Derivations
 pub mod Soundness
 pub mod Products
+pub mod Points
+pub mod Traces

@@ -7,7 +7,7 @@ use Rattle.az_lin.proofs.Dot.{dot-step}
 
 pub AddsWide-first : (sum : ℤ) (xs ys : List ℤ) (i : ℕ) → i < length xs → i < length ys → AddsWide sum (drop i xs) (drop i ys)
     → IsWide (get_or xs i (pos 0) *ℤ get_or ys i (pos 0)) × IsWide (sum +ℤ (get_or xs i (pos 0) *ℤ get_or ys i (pos 0)))
-      × AddsWide (sum +ℤ (get_or xs i (pos 0) *ℤ get_or ys i (pos 0))) (drop (i + 1) xs) (drop (i + 1) ys)
+    × AddsWide (sum +ℤ (get_or xs i (pos 0) *ℤ get_or ys i (pos 0))) (drop (i + 1) xs) (drop (i + 1) ys)
 AddsWide-first sum xs ys i p q h =
     let P : List ℤ → List ℤ → Type 0 = λ us vs. AddsWide sum us vs in
     let opened = subst₂ P (drop-cons xs i (pos 0) p) (drop-cons ys i (pos 0) q) h in

@@ -23,7 +23,7 @@ pub HasWidth-quotient : (width : ℕ) (a : ℤ) (left : Affine) (b : ℤ) (right
     → HasWidth width (quotient (combination a left b right) divisor)
 HasWidth-quotient width a left b right divisor p q =
     length-map (scaled_sums a left.coefs b right.coefs) (λ coef. int_div_euclid coef divisor)
-      ∙ length-scaled_sums a left.coefs b right.coefs (p ∙ sym q) ∙ p
+    ∙ length-scaled_sums a left.coefs b right.coefs (p ∙ sym q) ∙ p
 
 pub quotient_width : (width : ℕ) (a : ℤ) (left : Affine) (b : ℤ) (right : Affine) (divisor : ℤ) (sum made : Affine) → HasWidth width left → HasWidth width right
     → sum ≡ combination a left b right → made ≡ quotient sum divisor → HasWidth width made
@@ -44,10 +44,10 @@ step_keeps rows step z valid holds =
     let left_holds : pos 0 ≤ℤ value_at left z = All-get_or (IsAtLeastZero z) rows step.i empty valid.left_below holds in
     let right_holds : pos 0 ≤ℤ value_at right z = All-get_or (IsAtLeastZero z) rows step.j empty valid.right_below holds in
     let sum_holds : pos 0 ≤ℤ scaled_sum step.a (value_at left z) step.b (value_at right z) =
-      scaled_sum-nonneg step.a (value_at left z) step.b (value_at right z) valid.left_weight left_holds valid.right_weight right_holds in
+    scaled_sum-nonneg step.a (value_at left z) step.b (value_at right z) valid.left_weight left_holds valid.right_weight right_holds in
     let P : ℤ → Type 0 = λ n. pos 0 ≤ℤ n in
     quotient-nonneg (sum_of rows step) step.g z valid.divisor valid.divides
-      (subst P (sym (value_at-combination step.a left step.b right z (same_width rows step valid))) sum_holds)
+    (subst P (sym (value_at-combination step.a left step.b right z (same_width rows step valid))) sum_holds)
 
 steps_keep : (rows : List Affine) (steps : List Step) (z : List ℤ) → AllSteps IsStep rows steps → All (IsAtLeastZero z) rows → All (IsAtLeastZero z) (rows_after rows steps)
 steps_keep rows [] z all holds = holds
@@ -77,7 +77,7 @@ refutes rows steps z derivation holds =
     let some : 0 < length steps = derivation.ends.some in
     let place : length rows + length steps - 1 < length (rows_after rows steps) = omega (arith, length-rows_after rows steps) in
     contradiction_fails (row_at (rows_after rows steps) (length rows + length steps - 1)) z derivation.ends.last
-      (All-get_or (IsAtLeastZero z) (rows_after rows steps) (length rows + length steps - 1) empty place (steps_keep rows steps z derivation.steps_good holds))
+    (All-get_or (IsAtLeastZero z) (rows_after rows steps) (length rows + length steps - 1) empty place (steps_keep rows steps z derivation.steps_good holds))
 
 -- a derivation by the rule of version 1 is one
 steps_from_exact : (rows : List Affine) (steps : List Step) → AllSteps IsExactStep rows steps → AllSteps IsStep rows steps

@@ -31,7 +31,7 @@ good_from_step Exact rows step valid divides = record { valid = valid; exact = d
 HasWideEntries-combination : (a : ℤ) (left : Affine) (b : ℤ) (right : Affine) → IsWideCombination a left b right → HasWideEntries (combination a left b right)
 HasWideEntries-combination a left b right wide =
     wide_row_of_sums a left.coefs b right.coefs left.konst right.konst (combination a left b right).coefs (combination a left b right).konst
-      (wide.coefficients, refl) (wide.constant, refl)
+    (wide.coefficients, refl) (wide.constant, refl)
 
 -- the numbers that a step names
 pub record Names (rows : List Affine) (step : Step) (a : ℤ) (left : Affine) (b : ℤ) (right : Affine) : Type 0 where
@@ -43,7 +43,7 @@ pub record Names (rows : List Affine) (step : Step) (a : ℤ) (left : Affine) (b
 same_sum : (rows : List Affine) (step : Step) (a : ℤ) (left : Affine) (b : ℤ) (right : Affine) → Names rows step a left b right → combination a left b right ≡ sum_of rows step
 same_sum rows step a left b right named =
     ap₂ (λ (x : ℤ) (l : Affine). combination x l b right) named.a_is (sym named.left_is)
-      ∙ ap₂ (λ (y : ℤ) (r : Affine). combination step.a (row_at rows step.i) y r) named.b_is (sym named.right_is)
+    ∙ ap₂ (λ (y : ℤ) (r : Affine). combination step.a (row_at rows step.i) y r) named.b_is (sym named.right_is)
 
 range_from_names : (rows : List Affine) (step : Step) (a : ℤ) (left : Affine) (b : ℤ) (right : Affine) → Names rows step a left b right
     → IsWideCombination a left b right → IsWideCombination step.a (row_at rows step.i) step.b (row_at rows step.j)
@@ -78,7 +78,7 @@ good_from_tests rule rows step a left b right sum n size signs i_below j_below n
       in_range = in_range;
       divides = divides_coefs rule (unsigned_abs step.g) (sum_of rows step) by;
       result_in_range = HasWideEntries-quotient (sum_of rows step).coefs (sum_of rows step).konst step.g signs.divisor
-        (HasWideEntries-combination step.a (row_at rows step.i) step.b (row_at rows step.j) in_range);
+          (HasWideEntries-combination step.a (row_at rows step.i) step.b (row_at rows step.j) in_range);
     }) by
 
 pub row_from_tests : (rows : List Affine) (step : Step) (a : ℤ) (left : Affine) (b : ℤ) (right sum : Affine) (g : ℤ) → g ≡ step.g → Names rows step a left b right

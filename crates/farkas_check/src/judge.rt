@@ -1,8 +1,9 @@
 //! Whether a derivation refutes a system.
 
-ghost use Rattle.std.specs.Prelude.{◌≡◌, ◌↔◌, All, IsTrue, List, OnOk, ℤ};
-ghost use Rattle.az_lin.specs.Affine.{HasWidth, Holds};
+ghost use Rattle.std.specs.Prelude.{◌≡◌, ◌↔◌, IsTrue, List, OnOk, ℤ};
+ghost use Rattle.az_lin.specs.Affine.{Holds};
 ghost use Rattle.az_lin.specs.Derivation.{IsStep, IsExactStep, IsContradiction};
+ghost use Rattle.farkas_check.specs.Directions.{BalancingMultipliers, HasConstantAtLastAlone};
 ghost use Rattle.farkas_check.specs.Verdict.{IsContradictionLast, IsGood, IsVerdict};
 
 use crate::CheckFault;
@@ -55,26 +56,20 @@ fn judge(
 }
 
 /// Whether the derivation refutes the system, where each step may round its constant down.
-pub fn check(
-    alloc: Global,
-    system: &Conj,
-    derivation: &Derivation,
-) -> Result<(), CheckFault>
+pub fn check(alloc: Global, system: &Conj, derivation: &Derivation) -> Result<(), CheckFault>
     ensures verdict { IsVerdict IsStep system.now.rows derivation.now.steps result }
     ensures refutes { OnOk result ((z : List ℤ) → ¬ Holds system.now z) }
+    ensures multipliers { OnOk result (HasConstantAtLastAlone system.now.rows → BalancingMultipliers system.now.rows) }
 {
     judge(alloc, Rule::Rounded, system, derivation)
 }
 
 /// Whether the derivation refutes the system by the rule of version 1, where each step divides its
 /// constant exactly.
-pub fn check_exact(
-    alloc: Global,
-    system: &Conj,
-    derivation: &Derivation,
-) -> Result<(), CheckFault>
+pub fn check_exact(alloc: Global, system: &Conj, derivation: &Derivation) -> Result<(), CheckFault>
     ensures verdict { IsVerdict IsExactStep system.now.rows derivation.now.steps result }
     ensures refutes { OnOk result ((z : List ℤ) → ¬ Holds system.now z) }
+    ensures multipliers { OnOk result (HasConstantAtLastAlone system.now.rows → BalancingMultipliers system.now.rows) }
 {
     judge(alloc, Rule::Exact, system, derivation)
 }

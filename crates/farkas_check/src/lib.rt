@@ -13,3 +13,6 @@ mod satisfy;
 pub use fault::CheckFault;
 pub use judge::{check, check_exact};
 pub use satisfy::satisfies;
+
+#[cfg(test)]
+mod tests;

@@ -10,7 +10,7 @@ loop-number-preserved c =
     let i = c.loop-number.number-index in
     let fits : SFits w128 (get_or c.args.numbers.now i (pos 0)) = search rules in
     All-more (λ z. c.args.divisor ∣ unsigned_abs z) c.args.numbers.now i (pos 0) c.loop-number-test.true c.loop-number.invariant
-      (simp to_z-of_z at (c.divides_number.ensures.0 c.if-not-divides_number.false))
+    (simp to_z-of_z at (c.divides_number.ensures.0 c.if-not-divides_number.false))
 
 pub returns-then-not-divides_number : goal.returns-then-not-divides_number
 returns-then-not-divides_number c =

@@ -49,7 +49,7 @@ returns-then-not-divides_row-clause-exact c =
       right_is = c.in-Some-row_view.ensures.value;
     } in
     bad_from_division c.args.rule (c.args.system.now.rows ++ c.args.made.now) c.args.step.now _ _ _ _ c.in-Ok-Some.sum c.divides_row.result c.unsigned_abs.result size
-      named some.1 c.divides_row.ensures c.if-not-divides_row.true
+    named some.1 c.divides_row.ensures c.if-not-divides_row.true
 
 pub divided-requires : goal.divided-requires
 divided-requires c =
@@ -70,10 +70,11 @@ returns-clause-exact c =
       left_is = c.in-Some.ensures.value;
       b_is = to_z-of_z w128 c.args.step.now.b b_fits;
       right_is = c.in-Some-row_view.ensures.value;
-    } in
-    (good_from_tests c.args.rule (c.args.system.now.rows ++ c.args.made.now) c.args.step.now _ _ _ _ c.in-Ok-Some.sum c.unsigned_abs.result size signs
-      c.in-Some.ensures.found c.in-Some-row_view.ensures.found named some.0 some.1 (c.divides_row.ensures.0 c.if-not-divides_row.false),
-     c.divided.ensures ∙ row_from_tests (c.args.system.now.rows ++ c.args.made.now) c.args.step.now _ _ _ _ c.in-Ok-Some.sum _ (to_z-of_z w128 c.args.step.now.g g_fits) named some.1)
+    } in (
+      good_from_tests c.args.rule (c.args.system.now.rows ++ c.args.made.now) c.args.step.now _ _ _ _ c.in-Ok-Some.sum c.unsigned_abs.result size signs
+          c.in-Some.ensures.found c.in-Some-row_view.ensures.found named some.0 some.1 (c.divides_row.ensures.0 c.if-not-divides_row.false),
+      c.divided.ensures ∙ row_from_tests (c.args.system.now.rows ++ c.args.made.now) c.args.step.now _ _ _ _ c.in-Ok-Some.sum _ (to_z-of_z w128 c.args.step.now.g g_fits) named some.1,
+    )
 
 pub returns-clause-width : goal.returns-clause-width
 returns-clause-width c =

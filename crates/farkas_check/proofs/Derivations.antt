@@ -1,5 +1,5 @@
 -- The rows after some steps, step by step.
-use Rattle.std.proofs.Common.{◌≡◌, ℕ, zero, suc, ◌+◌, ◌-◌, ◌<◌, ◌≤◌, ◌↔◌, ◌∙◌, sym, subst, ap, refl, arith, List, [], ◌∷◌, ◌++◌, length, take, get_or, append_assoc, All, ℤ, pos, inl, inr}
+use Rattle.std.proofs.Common.{◌≡◌, ℕ, ◌+◌, ◌-◌, ◌<◌, ◌∙◌, sym, subst, ap, refl, arith, List, [], ◌∷◌, ◌++◌, length, take, get_or, append_assoc, pos, inl, inr}
 use Rattle.std.proofs.Common.{get_or-append-add, length-append}
 use Rattle.std.proofs.lemmas.List.{take_all, take_more, get_or_default}
 use Rattle.az_lin.specs.Affine.{Affine}

@@ -1,5 +1,5 @@
 -- The test of a remainder and what it says.
-use Rattle.std.proofs.Common.{◌≡◌, ℕ, ◌%◌, ◌<◌, ◌↔◌, IsTrue, nat_eq, eqb, eq-eqb, eqb-true, subst, sym}
+use Rattle.std.proofs.Common.{◌≡◌, ℕ, ◌%◌, ◌↔◌, IsTrue, nat_eq, eq-eqb, eqb-true, subst, sym}
 use Rattle.std.proofs.lemmas.Nat.Gcd.{dvd_of_mod-eq-zero, mod-eq-zero_of_dvd}
 use Prim.Native.Nat.{◌∣◌}
 

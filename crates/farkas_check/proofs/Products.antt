@@ -1,5 +1,5 @@
 -- Products that are added one by one.
-use Rattle.std.proofs.Common.{◌≡◌, ℕ, suc, ◌+◌, ◌<◌, ◌∙◌, sym, subst, subst₂, ap, arith, List, ◌∷◌, length, get_or, drop, ℤ, pos, ◌+ℤ◌, ◌*ℤ◌}
+use Rattle.std.proofs.Common.{◌≡◌, ℕ, suc, ◌+◌, ◌<◌, ◌∙◌, sym, subst, subst₂, ap, arith, List, length, get_or, drop, ℤ, pos, ◌+ℤ◌, ◌*ℤ◌}
 use Rattle.std.proofs.Math.Seq.{drop-cons}
 use Rattle.az_lin.specs.Affine.{IsWide, dot}
 use Rattle.az_lin.specs.RationalPoint.{AddsWide}

@@ -1,13 +1,13 @@
 -- A derivation refutes: at a whole point where each row of the system is at least 0, so is each row that is made,
 -- and the last one can't be.
-use Rattle.std.proofs.Common.{◌≡◌, ℕ, ◌+◌, ◌-◌, ◌<◌, ◌∙◌, suc, refl, sym, subst, ap, ap₂, arith, List, [], ◌∷◌, ◌++◌, length, map, get_or, All, Result, Ok, Err, OnOk, ℤ, pos, ◌+ℤ◌, ◌*ℤ◌, ◌≤ℤ◌, ◌<ℤ◌}
+use Rattle.std.proofs.Common.{◌≡◌, ℕ, ◌+◌, ◌-◌, ◌<◌, ◌∙◌, suc, refl, sym, subst, ap, ap₂, arith, List, [], ◌∷◌, ◌++◌, length, All, Result, Ok, Err, OnOk, ℤ, pos, ◌+ℤ◌, ◌*ℤ◌, ◌≤ℤ◌}
 use Rattle.std.proofs.lemmas.Int.{ints}
 use Rattle.std.proofs.lemmas.List.{length-map}
 use Rattle.std.proofs.lemmas.List.Elements.{All-get_or, All-push, All-head, All-tail, length_all_zip}
 use Rattle.std.specs.Int.{int_div_euclid}
 use Rattle.az_lin.specs.Affine.{Affine, Polyhedron, HasWidth, Holds, IsAtLeastZero, dot, value_at}
 use Rattle.az_lin.specs.Combination.{IsWideSum, scaled_sum, scaled_sums, combination, quotient}
-use Rattle.az_lin.specs.Derivation.{IsStep, IsExactStep, row_at, sum_of, row_of, rows_after, AllSteps, IsContradiction, EndsInContradiction, IsDerivation}
+use Rattle.az_lin.specs.Derivation.{IsStep, IsExactStep, row_at, sum_of, row_of, rows_after, AllSteps, IsContradiction, IsDerivation}
 use Rattle.az_lin.specs.declared.step.Step.{Step}
 use Rattle.az_lin.proofs.StepLaws.{value_at-combination, scaled_sum-nonneg, quotient-nonneg}
 use Rattle.farkas_check.specs.Verdict.{IsVerdict}

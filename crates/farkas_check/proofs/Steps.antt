@@ -1,10 +1,10 @@
 -- What the tests of a step say together, and each alone where it fails.
-use Rattle.std.proofs.Common.{◌≡◌, ℕ, ◌<◌, ◌≤◌, ◌↔◌, ◌∙◌, sym, subst, subst₂, ap, ap₂, refl, arith, Bool, true, false, true≢false, IsTrue, List, length, ℤ, pos, negsuc, unsigned_abs, ◌<ℤ◌}
+use Rattle.std.proofs.Common.{◌≡◌, ℕ, ◌<◌, ◌≤◌, ◌↔◌, ◌∙◌, sym, subst, subst₂, ap₂, refl, arith, Bool, true, false, true≢false, IsTrue, List, length, ℤ, pos, negsuc, unsigned_abs, ◌<ℤ◌}
 use Rattle.std.proofs.lemmas.Int.{ints}
 use Rattle.az_lin.specs.Affine.{Affine}
 use Rattle.az_lin.specs.Combination.{HasWideEntries, IsWideCombination, combination, quotient}
 use Rattle.az_lin.specs.CommonDivisor.{DividesEach}
-use Rattle.az_lin.specs.Derivation.{IsStep, IsExactStep, row_at, sum_of, row_of}
+use Rattle.az_lin.specs.Derivation.{IsStep, row_at, sum_of, row_of}
 use Rattle.az_lin.specs.declared.step.Step.{Step}
 use Rattle.az_lin.proofs.WideSums.{wide_row_of_sums, HasWideEntries-quotient}
 use Rattle.farkas_check.specs.Verdict.{IsGood, HasGoodSigns, DividesBy}

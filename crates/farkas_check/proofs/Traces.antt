@@ -1,14 +1,14 @@
 -- Each row that a derivation makes is, times a positive number, a sum of multiples of the given rows.
-use Rattle.std.proofs.Common.{◌≡◌, ℕ, zero, suc, ◌+◌, ◌-◌, ◌*◌, ◌<◌, ◌≤◌, ◌⊎◌, inl, inr, ◌∙◌, refl, sym, subst, ap, ap₂, arith, mul-pos, eq-zero-or-pos, List, [], ◌∷◌, ◌++◌, length, map, get_or, All, Result, Ok, Err, OnOk, ℤ, pos, negsuc, ◌+ℤ◌, ◌*ℤ◌, ◌≤ℤ◌, ◌<ℤ◌, unsigned_abs}
+use Rattle.std.proofs.Common.{◌≡◌, ℕ, zero, suc, ◌+◌, ◌-◌, ◌*◌, ◌<◌, ◌⊎◌, inl, inr, ◌∙◌, refl, sym, subst, ap, ap₂, arith, mul-pos, eq-zero-or-pos, List, [], ◌∷◌, ◌++◌, length, map, get_or, All, Result, Ok, Err, OnOk, ℤ, pos, negsuc, ◌+ℤ◌, ◌*ℤ◌, ◌≤ℤ◌, ◌<ℤ◌, unsigned_abs}
 use Rattle.std.proofs.lemmas.Int.{ints}
 use Rattle.std.proofs.lemmas.List.{get_or_default}
 use Rattle.std.proofs.lemmas.Bool.{cases_lt}
-use Rattle.std.proofs.lemmas.List.Elements.{All-get_or, All-push, All-head, All-tail}
+use Rattle.std.proofs.lemmas.List.Elements.{All-push, All-head, All-tail}
 use Rattle.std.specs.Int.{int_div_euclid}
 use Rattle.az_lin.specs.Affine.{Affine}
 use Rattle.az_lin.specs.CommonDivisor.{DividesEach}
 use Rattle.az_lin.specs.Combination.{scaled_sum, scaled_sums, combination, quotient}
-use Rattle.az_lin.specs.Derivation.{IsStep, IsExactStep, IsDerivation, row_at, sum_of, row_of, rows_after, AllSteps, IsContradiction}
+use Rattle.az_lin.specs.Derivation.{IsStep, IsExactStep, IsDerivation, row_at, row_of, rows_after, AllSteps, IsContradiction}
 use Rattle.az_lin.specs.declared.step.Step.{Step}
 use Rattle.az_lin.proofs.Integers.{mul_comm_int, mul-add_int, add-mul_int, mul_assoc_int, mul_left_comm_int, mul-nonneg_int, floor_exact}
 use Rattle.farkas_check.specs.Directions.{coef_at, column_sum, BalancingMultipliers, HasConstantAtLastAlone}

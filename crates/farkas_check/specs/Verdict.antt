@@ -1,5 +1,5 @@
 -- What an answer of the judge means: each derivation is accepted or has a first step that fails.
-use Rattle.std.specs.Prelude.{◌≡◌, ℕ, ◌-◌, ◌<◌, List, length, Result, Ok, Err, ℤ, pos, ◌≤ℤ◌, ◌<ℤ◌, unsigned_abs}
+use Rattle.std.specs.Prelude.{ℕ, ◌-◌, ◌<◌, List, length, Result, Ok, Err, pos, ◌≤ℤ◌, ◌<ℤ◌, unsigned_abs}
 use Rattle.az_lin.specs.Affine.{Affine}
 use Rattle.az_lin.specs.CommonDivisor.{DividesEach}
 use Rattle.az_lin.specs.Derivation.{IsStep, IsExactStep, IsDerivation, IsFirstBad, IsContradiction, row_at}

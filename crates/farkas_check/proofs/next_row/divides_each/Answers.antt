@@ -1,4 +1,4 @@
-use Rattle.std.proofs.Common.{ℤ, pos, get_or, unsigned_abs, SFits, to_z-of_z, rules, refl, sym, ◌∙◌, true≢false}
+use Rattle.std.proofs.Common.{pos, get_or, unsigned_abs, SFits, to_z-of_z, rules, refl, sym, ◌∙◌, true≢false}
 use Rattle.std.proofs.lemmas.List.{take_all}
 use Rattle.std.proofs.lemmas.List.Elements.{All-more, All-same}
 use Rattle.std.specs.Int.{w128}

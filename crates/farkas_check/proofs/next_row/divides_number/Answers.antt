@@ -1,4 +1,4 @@
-use Rattle.std.proofs.Common.{◌≡◌, ◌∙◌, ap, ℤ, unsigned_abs}
+use Rattle.std.proofs.Common.{◌∙◌, ap, ℤ, unsigned_abs}
 use Rattle.std.proofs.lemmas.Int.{to_z-of_z}
 use Rattle.std.specs.Int.{w128}
 use Rattle.farkas_check.proofs.Divisors.{no_rest_iff_divides}

@@ -22,7 +22,13 @@ const fn step(a: i128, i: u32, b: i128, j: u32, g: i128) -> Step {
     Step { a, i, b, j, g }
 }
 
-const SUM: Step = step(1, 0, 1, 1, 1);
+const SUM: Step = Step {
+    a: 1,
+    i: 0,
+    b: 1,
+    j: 1,
+    g: 1,
+};
 
 const GREAT: i128 = 1 << 126;
 

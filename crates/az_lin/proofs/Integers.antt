@@ -72,6 +72,10 @@ pub le_of_mul_left_int : (a b c : ℤ) → pos 0 <ℤ a → (a *ℤ b) ≤ℤ (a
 le_of_mul_left_int a b c p q =
     by_lt_z c b (λ h. let back : (a *ℤ c) <ℤ (a *ℤ b) = lt-mul_left_int a c b p h in omega (arith, ints)) (λ h. h)
 
+pub lt_of_mul_left_int : (a b c : ℤ) → pos 0 <ℤ a → (a *ℤ b) <ℤ (a *ℤ c) → b <ℤ c
+lt_of_mul_left_int a b c p q =
+    by_lt_z b c (λ h. h) (λ h. let back : (a *ℤ c) ≤ℤ (a *ℤ b) = le-mul_left_int a c b (omega (arith, ints)) h in absurd (omega (arith, ints)))
+
 -- the quotient by a positive number, rounded down
 pub floor_low : (a d : ℤ) → pos 0 <ℤ d → (d *ℤ int_div_euclid a d) ≤ℤ a
 floor_low (pos a) (pos d) p = omega (arith, ints)

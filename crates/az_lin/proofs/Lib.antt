@@ -5,3 +5,4 @@ pub mod DivisorLaws
 pub mod WideSums
 pub mod Substitution
 pub mod Exactly
+pub mod StepLaws

@@ -1,5 +1,5 @@
 -- Sums of scaled numbers and lists, built column by column.
-use Rattle.std.proofs.Common.{◌≡◌, ℕ, suc, ◌+◌, ◌<◌, sym, ap, subst, ◌∙◌, arith, Option, Some, None, SomeIff, ℤ, pos, ◌+ℤ◌, ◌*ℤ◌, List, [], ◌∷◌, ◌++◌, length, get_or, set, map, zero, take, drop, add-one, append_assoc, append-nil, All, ◌<ℤ◌, lt_of_le_of_lt}
+use Rattle.std.proofs.Common.{◌≡◌, ℕ, suc, ◌+◌, ◌<◌, sym, ap, subst, ◌∙◌, arith, Option, Some, None, SomeIff, ℤ, pos, ◌+ℤ◌, ◌*ℤ◌, List, [], ◌∷◌, ◌++◌, length, get_or, set, map, zero, take, drop, add-one, append_assoc, append-nil, All, ◌<ℤ◌, lt_of_le_of_lt, negsuc, div-one, refl, ap₂}
 use Rattle.std.proofs.lemmas.List.Elements.{All-nil, All-cons, All-same, All-map, All-weaker}
 use Rattle.std.proofs.lemmas.List.{take_all, length-map}
 use Rattle.std.proofs.Math.ListN.{drop_of_length-le}
@@ -7,7 +7,7 @@ use Rattle.std.specs.Int.{int_div_euclid}
 use Rattle.std.proofs.Math.Seq.{drop-cons}
 use Rattle.std.specs.List.{AllZip, refill}
 use Rattle.az_lin.proofs.Integers.{unsigned_abs-floor}
-use Rattle.az_lin.specs.Affine.{IsWide}
+use Rattle.az_lin.specs.Affine.{Affine, IsWide}
 use Rattle.az_lin.specs.Combination.{scaled_sum, scaled_sums, IsWideSum, HasWideEntries, quotient}
 
 -- the last of three tests
@@ -92,3 +92,16 @@ pub wide_after_division : (items ys ws : List ℤ) (konst number d : ℤ) → po
     → HasWideEntries (record { coefs = refill (length items) items ws; konst = number })
 wide_after_division items ys ws konst number d positive wide same is floor =
     rw (refill-map (λ coef. int_div_euclid coef d) items ys ws same is, floor) (HasWideEntries-quotient items konst d positive wide)
+
+floor_by_one : (z : ℤ) → int_div_euclid z (pos 1) ≡ z
+floor_by_one (pos a) = ap pos (div-one a)
+floor_by_one (negsuc a) = ap negsuc (div-one a)
+
+floors_by_one : (zs : List ℤ) → map (λ coef. int_div_euclid coef (pos 1)) zs ≡ zs
+floors_by_one [] = refl
+floors_by_one (z ∷ zs) = cc (floor_by_one z, floors_by_one zs)
+
+pub quotient_by_one : (row : Affine) (divisor : ℤ) → divisor ≡ pos 1 → row ≡ quotient row divisor
+quotient_by_one row divisor one =
+    let P : ℤ → Type 0 = λ d. row ≡ quotient row d in
+    subst P (sym one) (sym (ap₂ (λ (coefs : List ℤ) (konst : ℤ). let made : Affine = record { coefs = coefs; konst = konst } in made) (floors_by_one row.coefs) (floor_by_one row.konst)))

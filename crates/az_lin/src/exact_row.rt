@@ -2,12 +2,12 @@
 
 ghost use Rattle.std.specs.Prelude.{◌≡◌, ◌<◌, length, All, IfOk, IfErr, SomeIff, map, slice_get, pos, ◌<ℤ◌};
 ghost use Rattle.std.specs.Int.{int_div_euclid};
-ghost use Rattle.az_lin.specs.Affine.{IsWide};
+ghost use Rattle.az_lin.specs.Affine.{Affine, IsWide};
 ghost use Rattle.az_lin.specs.Combination.{combination, IsWideCombination, quotient};
 ghost use Rattle.az_lin.specs.declared.fault.LinFault.TheVariants.{Memory};
 
 use crate::scaled_sum::{sum_of_scaled, sums_of_scaled};
-use crate::{LinFault, Row, Weights};
+use crate::{LinFault, Row, RowView, Weights};
 use smallvec::SmallVec;
 use std::alloc::Global;
 use std::marker::Model;
@@ -77,25 +77,19 @@ impl ExactRow {
     pub fn combination(
         alloc: Global,
         weights: &Weights,
-        left: &ExactRow,
-        right: &ExactRow,
+        left: &RowView<'_>,
+        right: &RowView<'_>,
     ) -> Result<Option<ExactRow>, LinFault>
-        requires { length left.now.coefs ≡ length right.now.coefs }
-        ensures exact { IfOk result (λ sum. SomeIff sum
-            (IsWideCombination weights.now.a left.now weights.now.b right.now)
-            (combination weights.now.a left.now weights.now.b right.now)) }
+        requires { length left.now.coefs.now ≡ length right.now.coefs.now }
+        ensures exact { IfOk result (λ sum. let x : Affine = record { coefs = left.now.coefs.now; konst = left.now.konst } in
+            let y : Affine = record { coefs = right.now.coefs.now; konst = right.now.konst } in
+            SomeIff sum (IsWideCombination weights.now.a x weights.now.b y) (combination weights.now.a x weights.now.b y)) }
         ensures cause { IfErr result (λ fault. fault ≡ Memory) }
     {
         let Some(konst) = sum_of_scaled(weights, left.konst, right.konst) else {
             return Ok(None);
         };
-        let sums = sums_of_scaled(
-            alloc,
-            weights,
-            left.coefs.as_slice(),
-            right.coefs.as_slice(),
-        )?;
-        match sums {
+        match sums_of_scaled(alloc, weights, left.coefs, right.coefs)? {
             Some(coefs) => Ok(Some(ExactRow { coefs, konst })),
             None => Ok(None),
         }
@@ -106,6 +100,9 @@ impl ExactRow {
         requires { pos 0 <ℤ divisor }
         ensures { result ≡ quotient self divisor }
     {
+        if divisor == 1 {
+            return self;
+        }
         let ExactRow { mut coefs, konst } = self;
         divide_each(coefs.as_mut_slice(), divisor);
         ExactRow {

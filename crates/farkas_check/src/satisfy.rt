@@ -1,0 +1,81 @@
+//! Whether a rational point satisfies a system.
+
+ghost use Rattle.std.specs.Prelude.{◌≡◌, ◌+ℤ◌, ◌*ℤ◌, ◌≤ℤ◌, ◌<ℤ◌, ◌↔◌, SomeIff, IsTrue, length, pos};
+ghost use Rattle.az_lin.specs.Affine.{IsWide, dot};
+ghost use Rattle.farkas_check.specs.Verdict.{IsMet};
+ghost use Rattle.az_lin.specs.RationalPoint.{AddsWide, IsWideAt, Satisfies, value_over};
+
+use az_lin::{Conj, RatPoint, Row};
+
+fn wide_product(x: i128, y: i128) -> Option<i128>
+    ensures { SomeIff result (IsWide (x *ℤ y)) (x *ℤ y) }
+{
+    match x.checked_mul(y) {
+        Some(product) if product != i128::MIN => Some(product),
+        _ => None,
+    }
+}
+
+fn wide_sum(x: i128, y: i128) -> Option<i128>
+    ensures { SomeIff result (IsWide (x +ℤ y)) (x +ℤ y) }
+{
+    match x.checked_add(y) {
+        Some(sum) if sum != i128::MIN => Some(sum),
+        _ => None,
+    }
+}
+
+/// The start and the products of the two lists, added in order.
+fn add_products(start: i128, coefs: &[i128], nums: &[i128]) -> Option<i128>
+    requires { length coefs.now ≡ length nums.now }
+    ensures { SomeIff result (AddsWide start coefs.now nums.now) (start +ℤ dot coefs.now nums.now) }
+{
+    let mut sum = start;
+    'columns: for column in 0..coefs.len() {
+        let Some(product) = wide_product(coefs[column], nums[column]) else {
+            return None;
+        };
+        let Some(next) = wide_sum(sum, product) else {
+            return None;
+        };
+        sum = next;
+    }
+    Some(sum)
+}
+
+/// The denominator times the row's value at the point.
+fn scaled_value(row: &Row, point: &RatPoint) -> Option<i128>
+    requires { length row.now.coefs ≡ length point.now.nums }
+    ensures { SomeIff result (IsWideAt point.now row.now) (value_over row.now point.now) }
+{
+    let Some(start) = wide_product(row.konst(), point.den) else {
+        return None;
+    };
+    add_products(start, row.coefs(), point.nums.as_slice())
+}
+
+fn is_met(row: &Row, point: &RatPoint) -> bool
+    requires { length row.now.coefs ≡ length point.now.nums }
+    ensures { IsTrue result ↔ IsMet point.now row.now }
+{
+    match scaled_value(row, point) {
+        Some(value) => value >= 0,
+        None => false,
+    }
+}
+
+/// Whether the point has the system's width and a positive denominator, and every row is at least
+/// 0 there, with every product and sum of its evaluation within ±(2^127 - 1).
+pub fn satisfies(system: &Conj, point: &RatPoint) -> bool
+    ensures { IsTrue result ↔ Satisfies system.now point.now }
+{
+    if point.nums.len() != system.width() || point.den <= 0 {
+        return false;
+    }
+    for row in system.rows() {
+        if !is_met(row, point) {
+            return false;
+        }
+    }
+    true
+}

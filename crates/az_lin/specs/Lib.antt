@@ -1,3 +1,7 @@
 pub mod Affine
 pub mod Answers
 pub mod Substitution
+pub mod CommonDivisor
+pub mod Combination
+pub mod Derivation
+pub mod RationalPoint

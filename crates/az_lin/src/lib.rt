@@ -3,24 +3,34 @@
 //! `specs/Affine.antt` says what a row, a map and a domain mean at a point.
 #![tactic(auto)]
 
-mod combination;
+mod common_divisor;
 mod conj;
 mod copy;
 mod domain;
+mod exact_row;
 mod fault;
 mod limit;
 mod list;
 mod map;
 mod name;
+mod place;
 mod row;
+mod row_view;
 mod scalar;
+mod scaled_sum;
+mod step;
 
+pub use common_divisor::{gcd, gcd_all};
 pub use conj::Conj;
 pub use copy::TryCopy;
 pub use domain::Domain;
+pub use exact_row::ExactRow;
 pub use fault::{LinFault, NoInverse};
 pub use limit::Limit;
 pub use list::List;
 pub use map::Map;
 pub use name::Name;
 pub use row::Row;
+pub use row_view::RowView;
+pub use scaled_sum::Weights;
+pub use step::{Derivation, RatPoint, Step};

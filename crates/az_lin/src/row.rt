@@ -6,7 +6,7 @@ ghost use Rattle.az_lin.specs.Answers.{IsExactly};
 ghost use Rattle.az_lin.specs.Substitution.{Point, less, shifted, composed};
 ghost use Rattle.az_lin.specs.declared.fault.LinFault.TheVariants.{Memory};
 
-use crate::combination::{Place, combine};
+use crate::place::{Place, sum_at};
 use crate::scalar::scalar_product;
 use crate::{LinFault, Map, TryCopy};
 use smallvec::SmallVec;
@@ -127,9 +127,9 @@ impl Row {
         let mut coefs = SmallVec::new(alloc);
         coefs.reserve(width)?;
         'columns: for column in 0..width {
-            coefs.push(combine(self.coefs(), f.rows(), Place::Column(column), width))?;
+            coefs.push(sum_at(self.coefs(), f.rows(), Place::Column(column), width))?;
         }
-        let konst = combine(self.coefs(), f.rows(), Place::Constant, width);
+        let konst = sum_at(self.coefs(), f.rows(), Place::Constant, width);
         Row::checked(coefs, konst + self.konst())
     }
 }

@@ -1,11 +1,10 @@
-use Rattle.std.proofs.Common.{◌≡◌, ◌+◌, ◌++◌, [], ◌∷◌, ◌<◌, ℕ, List, length, map, take, get_or, arith, rules, ap, sym, ◌∙◌, subst, All, Result, Err, Ok}
+use Rattle.std.proofs.Common.{◌≡◌, ◌++◌, [], ◌∷◌, ◌<◌, ℕ, List, length, map, take, get_or, arith, rules, ap, sym, ◌∙◌, subst, All, Err}
 use Rattle.std.proofs.Math.Seq.{take-length}
 use Rattle.std.proofs.lemmas.List.{map-append, take_more}
 use Rattle.std.proofs.lemmas.List.Elements.{All-push, All-same}
 use Rattle.az_lin.specs.Affine.{Affine, AffineMap, HasEntries, HasWidth, image_of}
 use Rattle.az_lin.specs.Answers.{IsExactly}
 use Rattle.az_lin.specs.Substitution.{composed, composed_map, HasEntryRows}
-use Rattle.az_lin.specs.declared.fault.LinFault.{LinFault}
 use Rattle.az_lin.proofs.Exactly.{handed_on}
 use Rattle.az_lin.proofs.Substitution.{entries_at, widths_composed, image_of-composed, map_is}
 use Rattle.az_lin.proofs.map.Map.compose.Goals as goal

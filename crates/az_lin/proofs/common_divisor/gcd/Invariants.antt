@@ -1,0 +1,10 @@
+use Rattle.std.proofs.Common.{ℕ}
+use Rattle.std.specs.Int.{IsGcd}
+use Rattle.az_lin.proofs.common_divisor.gcd.Given as goal
+
+-- what divides the rest as the greatest divides the given numbers so
+abbrev pub invariant-loop-less : goal.invariant-loop-less
+invariant-loop-less l = (g : ℕ) → IsGcd l.greater l.less g → IsGcd l.fn.a l.fn.b g
+
+abbrev pub decreases-loop-less : goal.decreases-loop-less
+decreases-loop-less l = l.less

@@ -85,12 +85,3 @@ image_of-composed g f z wide = images g.rows f z wide
 pub widths_composed : (rows : List Affine) (f : AffineMap) → All (HasWidth f.width) (map (λ row. composed row f) rows)
 widths_composed rows f = All-map (HasWidth f.width) (λ row. composed row f) rows
     (λ k d h. length-map-range_with_len (λ j. dot (get_or rows k d).coefs (column j f.rows)) 0 f.width)
-
--- where the entries of a composed map fit, those of each of its rows do
-pub entries_at : (g f : AffineMap) (i : ℕ) (row : Affine) → i < length g.rows → row ≡ get_or g.rows i row
-    → HasEntryRows (composed_map g f) → HasEntries (composed row f)
-entries_at g f i row here is all =
-    let then_f : Affine → Affine = λ r. composed r f in
-    let place : i < length (map then_f g.rows) = rw length-map here in
-    let found : HasEntries (get_or (map then_f g.rows) i (then_f row)) = All-get_or HasEntries (map then_f g.rows) i (then_f row) place all in
-    subst HasEntries (get_or-map then_f g.rows i row (then_f row) here ∙ ap then_f (sym is)) found

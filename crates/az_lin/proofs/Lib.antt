@@ -1,8 +1,10 @@
 pub mod Magnitude
 pub mod Dot
+pub mod Substitution
+pub mod Negation
+pub mod Exactly
+pub mod Mapped
 pub mod Integers
 pub mod DivisorLaws
 pub mod WideSums
-pub mod Substitution
-pub mod Exactly
 pub mod StepLaws

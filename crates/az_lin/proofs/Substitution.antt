@@ -1,43 +1,22 @@
 -- What shifting and composing do to the value of a row.
-use Rattle.std.proofs.Common.{◌≡◌, ℕ, ◌+◌, ◌*◌, ◌<◌, arith, ℤ, pos, ◌+ℤ◌, ◌*ℤ◌, ◌-ℤ◌, List, [], ◌∷◌, length, get_or, map, All, ap, refl, sym, ◌∙◌, subst}
+use Rattle.std.proofs.Common.{◌≡◌, ℕ, ◌*◌, ◌<◌, arith, ℤ, pos, ◌+ℤ◌, ◌*ℤ◌, ◌-ℤ◌, List, [], ◌∷◌, length, get_or, map, All, ap, refl, sym, ◌∙◌, subst}
 use Rattle.std.specs.List.{range_with_len}
 use Rattle.std.proofs.lemmas.Int.{ints}
-use borrow.Author.Differences.{up, down, sum_is_lem, product_is, neg_is}
+use borrow.Author.Differences.{up, down, neg_is}
 use lib.IntN.{neg_ℤ}
 use Rattle.std.proofs.lemmas.List.FromFn.{fill_by_all, length-map-range_with_len}
 use Rattle.std.proofs.lemmas.List.Elements.{All-head, All-tail, All-map, All-get_or}
 use Rattle.std.proofs.lemmas.List.{get_or-map, length-map}
+use Rattle.az_lin.proofs.Integers.{mul-add_int, add-mul_int, mul_assoc_int}
 use Rattle.az_lin.specs.Affine.{Affine, AffineMap, HasWidth, HasEntries, dot, value_at, image_of}
 use Rattle.az_lin.specs.Substitution.{less, shifted, column, constants, composed, composed_map, HasEntryRows}
 
-mul_sum : (c x v : ℤ) → c *ℤ (x +ℤ v) ≡ (c *ℤ x) +ℤ (c *ℤ v)
-mul_sum c x v = omega (arith, ints, ap (λ n. up c * n) (sum_is_lem x v), ap (λ n. down c * n) (sum_is_lem x v))
-
 mul_neg : (c v : ℤ) → c *ℤ neg_ℤ v ≡ neg_ℤ (c *ℤ v)
-mul_neg c v = omega (arith, ints, ap (λ n. up c * n) (neg_is v).0, ap (λ n. down c * n) (neg_is v).0, ap (λ n. up c * n) (neg_is v).1, ap (λ n. down c * n) (neg_is v).1)
-
-mul_assoc : (a b c : ℤ) → (a *ℤ b) *ℤ c ≡ a *ℤ (b *ℤ c)
-mul_assoc a b c = omega (
-  arith,
-  ints,
-  ap (λ n. n * up c) (product_is a b).0,
-  ap (λ n. n * down c) (product_is a b).0,
-  ap (λ n. n * up c) (product_is a b).1,
-  ap (λ n. n * down c) (product_is a b).1,
-  ap (λ n. up a * n) (product_is b c).0,
-  ap (λ n. down a * n) (product_is b c).0,
-  ap (λ n. up a * n) (product_is b c).1,
-  ap (λ n. down a * n) (product_is b c).1,
-)
-
-mul_comm : (a b : ℤ) → a *ℤ b ≡ b *ℤ a
-mul_comm a b = omega (arith, ints)
-
-sum_mul : (x v c : ℤ) → (x +ℤ v) *ℤ c ≡ (x *ℤ c) +ℤ (v *ℤ c)
-sum_mul x v c = omega (arith, ints, mul_comm (x +ℤ v) c, mul_sum c x v)
+mul_neg c v =
+    omega (arith, ints, ap (λ n. up c * n) (neg_is v).0, ap (λ n. down c * n) (neg_is v).0, ap (λ n. up c * n) (neg_is v).1, ap (λ n. down c * n) (neg_is v).1)
 
 mul_less : (c x v : ℤ) → c *ℤ (x -ℤ v) ≡ (c *ℤ x) -ℤ (c *ℤ v)
-mul_less c x v = omega (arith, ints, mul_sum c x (neg_ℤ v), mul_neg c v)
+mul_less c x v = omega (arith, ints, mul-add_int c x (neg_ℤ v), mul_neg c v)
 
 pub dot-less : (cs zs vs : List ℤ) → length zs ≡ length vs → dot cs (less zs vs) ≡ dot cs zs -ℤ dot cs vs
 dot-less [] zs vs same = refl
@@ -60,7 +39,7 @@ dot-linear : (c : ℤ) (g h : ℕ → ℤ) (js : List ℕ) (z : List ℤ)
 dot-linear c g h [] z = omega (arith, ints)
 dot-linear c g h (j ∷ js) [] = omega (arith, ints)
 dot-linear c g h (j ∷ js) (x ∷ z) =
-    omega (arith, ints, dot-linear c g h js z, mul_sum c (g j *ℤ x) (dot (map g js) z), sum_mul (c *ℤ g j) (h j) x, mul_assoc c (g j) x)
+    omega (arith, ints, dot-linear c g h js z, mul-add_int c (g j *ℤ x) (dot (map g js) z), add-mul_int (c *ℤ g j) (h j) x, mul_assoc_int c (g j) x)
 
 -- a row's coefficients, column by column
 coefs-columns : (row : Affine) (width : ℕ) → HasWidth width row → map (λ j. get_or row.coefs j (pos 0)) (range_with_len 0 width) ≡ row.coefs
@@ -76,7 +55,7 @@ dot-composed (c ∷ cs) (row ∷ rows) width z wide =
       ints,
       dot-linear c (λ j. get_or row.coefs j (pos 0)) (λ j. dot cs (column j rows)) (range_with_len 0 width) z,
       ap (λ coefs. c *ℤ dot coefs z) (coefs-columns row width (All-head (HasWidth width) row rows wide)),
-      mul_sum c (dot row.coefs z) row.konst,
+      mul-add_int c (dot row.coefs z) row.konst,
       dot-composed cs rows width z (All-tail (HasWidth width) row rows wide),
     )
 
@@ -106,12 +85,3 @@ image_of-composed g f z wide = images g.rows f z wide
 pub widths_composed : (rows : List Affine) (f : AffineMap) → All (HasWidth f.width) (map (λ row. composed row f) rows)
 widths_composed rows f = All-map (HasWidth f.width) (λ row. composed row f) rows
     (λ k d h. length-map-range_with_len (λ j. dot (get_or rows k d).coefs (column j f.rows)) 0 f.width)
-
--- where the entries of a composed map fit, those of each of its rows do
-pub entries_at : (g f : AffineMap) (i : ℕ) (row : Affine) → i < length g.rows → row ≡ get_or g.rows i row
-    → HasEntryRows (composed_map g f) → HasEntries (composed row f)
-entries_at g f i row here is all =
-    let then_f : Affine → Affine = λ r. composed r f in
-    let place : i < length (map then_f g.rows) = rw length-map here in
-    let found : HasEntries (get_or (map then_f g.rows) i (then_f row)) = All-get_or HasEntries (map then_f g.rows) i (then_f row) place all in
-    subst HasEntries (get_or-map then_f g.rows i row (then_f row) here ∙ ap then_f (sym is)) found

@@ -1,10 +1,10 @@
 -- A row at a moved point, and rows and maps after a map.
-use Rattle.std.specs.Prelude.{◌≡◌, ℕ, ◌<◌, List, [], ◌∷◌, All, map, get_or}
+use Rattle.std.specs.Prelude.{ℕ, ◌<◌, List, [], ◌∷◌, All, map, get_or}
 use Rattle.std.specs.Prelude.{ℤ, pos, ◌+ℤ◌, ◌-ℤ◌}
 use Rattle.std.specs.List.{range_with_len}
 use Rattle.az_lin.specs.Affine.{Affine, AffineMap, HasEntries, dot}
-use Rattle.az_lin.specs.declared.combination.Place.{Place}
-use Rattle.az_lin.specs.declared.combination.Place.TheVariants.{Column, Constant}
+use Rattle.az_lin.specs.declared.place.Place.{Place}
+use Rattle.az_lin.specs.declared.place.Place.TheVariants.{Column, Constant}
 
 abbrev pub Point : Type 0
 Point = List ℤ

@@ -15,14 +15,14 @@ pub struct Domain {
 }
 
 impl Model for Domain {
-    ghost use Rattle.std.specs.Prelude.{All};
+    ghost use Rattle.std.specs.Prelude.{◌<◌, length, All};
     ghost use Rattle.az_lin.specs.Affine.{Union, IsOver};
 
     ghost Value = { Union };
 
     ghost view = { λ domain. record { width = domain.width; disjuncts = domain.disjuncts } };
 
-    ghost invariant = { λ domain. All (IsOver domain.width) domain.disjuncts };
+    ghost invariant = { λ domain. All (IsOver domain.width) domain.disjuncts × (0 < length domain.disjuncts) };
 }
 
 impl Domain {
@@ -58,6 +58,7 @@ impl Domain {
     pub fn disjuncts(&self) -> &[Conj]
         ensures value { result.now ≡ self.now.disjuncts }
         ensures widths { All (IsOver self.now.width) result.now }
+        ensures some { 0 < length result.now }
     {
         self.disjuncts.as_slice()
     }

@@ -4,7 +4,6 @@
 #![tactic(auto)]
 
 mod common_divisor;
-mod combination;
 mod conj;
 mod copy;
 mod domain;
@@ -14,6 +13,7 @@ mod limit;
 mod list;
 mod map;
 mod name;
+mod place;
 mod row;
 mod row_view;
 mod scalar;

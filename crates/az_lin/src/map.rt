@@ -35,7 +35,8 @@ impl Map {
     }
 
     pub fn width(&self) -> usize
-        ensures { result ≡ self.now.width }
+        ensures value { result ≡ self.now.width }
+        ensures widths { All (HasWidth result) self.now.rows }
     {
         self.width
     }

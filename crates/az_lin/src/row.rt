@@ -1,12 +1,13 @@
 //! A row: the coefficients of an affine form by column, and its constant.
 
-ghost use Rattle.std.specs.Prelude.{◌≡◌, ◌^◌, ◌<◌, ◌≤◌, length, All, IsTrue, ◌↔◌, IfOk, IfErr, slice_get};
-ghost use Rattle.az_lin.specs.Affine.{Affine, IsEntry, IsCoordinate, HasEntries, value_at, image_of};
+ghost use Rattle.std.specs.Prelude.{neg_ℤ, ◌≡◌, ◌^◌, ◌<◌, ◌≤◌, length, All, IsTrue, ◌↔◌, IfOk, IfErr, slice_get};
+ghost use Rattle.az_lin.specs.Affine.{Affine, IsEntry, IsCoordinate, HasEntries, value_at, image_of, IsAtLeastZero};
 ghost use Rattle.az_lin.specs.Answers.{IsExactly};
 ghost use Rattle.az_lin.specs.Substitution.{Point, less, shifted, composed};
+ghost use Rattle.az_lin.specs.Negation.{negated};
 ghost use Rattle.az_lin.specs.declared.fault.LinFault.TheVariants.{Memory};
 
-use crate::combination::{Place, combine};
+use crate::place::{Place, sum_at};
 use crate::scalar::scalar_product;
 use crate::{LinFault, Map, TryCopy};
 use smallvec::SmallVec;
@@ -37,6 +38,14 @@ fn is_entry(number: i128) -> bool
     ensures { IsTrue result ↔ IsEntry number }
 {
     -MOST_ENTRY <= number && number <= MOST_ENTRY
+}
+
+fn negative(entry: &i128) -> i128
+    requires { IsEntry entry.now }
+    ensures value { result ≡ neg_ℤ entry.now }
+    ensures range { IsEntry result }
+{
+    -*entry
 }
 
 /// Whether a row may have these coefficients and this constant.
@@ -127,10 +136,24 @@ impl Row {
         let mut coefs = SmallVec::new(alloc);
         coefs.reserve(width)?;
         'columns: for column in 0..width {
-            coefs.push(combine(self.coefs(), f.rows(), Place::Column(column), width))?;
+            coefs.push(sum_at(self.coefs(), f.rows(), Place::Column(column), width))?;
         }
-        let konst = combine(self.coefs(), f.rows(), Place::Constant, width);
+        let konst = sum_at(self.coefs(), f.rows(), Place::Constant, width);
         Row::checked(coefs, konst + self.konst())
+    }
+
+    /// The row `-e - 1` of a row `e`: it is at least 0 at the whole points where `e` is not.
+    pub fn negate(&self, alloc: Global) -> Result<Row, LinFault>
+        ensures exact { IsExactly HasEntries (negated self.now) result }
+        ensures meaning { (z : Point) → IfOk result (λ row. IsAtLeastZero z row ↔ (IsAtLeastZero z self.now → ⊥)) }
+    {
+        let mut coefs = SmallVec::new(alloc);
+        coefs.reserve(self.width())?;
+        'coefs: for coef in self.coefs() {
+            coefs.push(negative(coef))?;
+        }
+        let konst = self.konst();
+        Row::checked(coefs, negative(&konst) - 1)
     }
 }
 

@@ -1,5 +1,5 @@
 use Rattle.std.proofs.Common.{◌≡◌, take, map, All}
-use Rattle.az_lin.specs.Affine.{HasEntries, HasWidth}
+use Rattle.az_lin.specs.Affine.{HasEntries}
 use Rattle.az_lin.specs.Substitution.{composed}
 use Rattle.az_lin.proofs.map.Map.compose.Given as goal
 

@@ -1,4 +1,4 @@
-use Rattle.std.proofs.Common.{◌≡◌, ◌+◌, ◌++◌, [], ◌∷◌, ℕ, rules, arith, map, get_or, pos, ap, sym, ◌∙◌, ◌+ℤ◌, to_z, of_z, subst}
+use Rattle.std.proofs.Common.{◌≡◌, ◌++◌, [], ◌∷◌, ℕ, rules, arith, map, ap, sym, ◌∙◌, ◌+ℤ◌, to_z, of_z, subst}
 use Rattle.std.specs.Int.{w128}
 use Rattle.std.proofs.lemmas.Int.{ints}
 use Rattle.std.specs.List.{range_with_len}
@@ -15,10 +15,10 @@ pub columns-preserved : goal.columns-preserved
 columns-preserved c =
     let f = λ (j : ℕ). dot c.args.self.now.coefs (column j c.args.f.now.rows) in
     let step = map-range_with_len_more f 0 c.columns.column c.columns.column (omega arith) in
-    let value : c.combine.result ≡ f c.columns.column = cc in
-    let pushed : c.push.new.self.items ≡ c.columns.coefs.items ++ c.combine.result ∷ [] = search rules in
+    let value : c.sum_at.result ≡ f c.columns.column = cc in
+    let pushed : c.push.new.self.items ≡ c.columns.coefs.items ++ c.sum_at.result ∷ [] = search rules in
     pushed
-    ∙ ap (λ xs. xs ++ c.combine.result ∷ []) c.columns.invariant
+    ∙ ap (λ xs. xs ++ c.sum_at.result ∷ []) c.columns.invariant
     ∙ ap (λ x. map f (range_with_len 0 c.columns.column) ++ x ∷ []) value
     ∙ sym step
 
@@ -26,8 +26,8 @@ exact : (c : goal.After-checked) → IsExactly HasEntries (composed c.args.self.
 exact c =
     let full : c.columns.column ≡ c.args.f.now.width = omega arith in
     let coefs : c.columns.coefs.items ≡ (composed c.args.self.now c.args.f.now).coefs = c.columns.invariant ∙ ap (λ n. map (λ j. dot c.args.self.now.coefs (column j c.args.f.now.rows)) (range_with_len 0 n)) full in
-    let value : c.combine-konst.result ≡ dot c.args.self.now.coefs (constants c.args.f.now.rows) = cc in
-    let konst : to_z w128 (of_z w128 (to_z w128 (of_z w128 c.combine-konst.result) +ℤ to_z w128 (of_z w128 c.konst.result))) ≡ (composed c.args.self.now c.args.f.now).konst =
+    let value : c.sum_at-konst.result ≡ dot c.args.self.now.coefs (constants c.args.f.now.rows) = cc in
+    let konst : to_z w128 (of_z w128 (to_z w128 (of_z w128 c.sum_at-konst.result) +ℤ to_z w128 (of_z w128 c.konst.result))) ≡ (composed c.args.self.now c.args.f.now).konst =
     omega (arith, ints) in
     subst (λ row. IsExactly HasEntries row c.checked.result) (row_is _ _ _ coefs konst) c.checked.ensures
 

@@ -1,7 +1,7 @@
 use Rattle.std.proofs.Common.{◌≡◌, ◌^◌, ◌≤◌, unsigned_abs, ◌*◌, drop, ◌+ℤ◌}
 use Rattle.az_lin.specs.Affine.{dot}
 use Rattle.az_lin.specs.Substitution.{entries}
-use Rattle.az_lin.proofs.combination.combine.Given as goal
+use Rattle.az_lin.proofs.place.sum_at.Given as goal
 
 -- what is added so far and what is left to add make the whole product
 abbrev pub invariant-rows : goal.invariant-rows

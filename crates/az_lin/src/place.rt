@@ -25,7 +25,7 @@ fn entry(row: &Row, place: Place) -> i128
 }
 
 /// As for a scalar product, at most 64 products of entries can't overflow.
-pub(crate) fn combine(weights: &[i128], rows: &[Row], place: Place, width: usize) -> i128
+pub(crate) fn sum_at(weights: &[i128], rows: &[Row], place: Place, width: usize) -> i128
     requires same { length weights.now ≡ length rows.now }
     requires short { length weights.now ≤ 64 }
     requires range { All IsEntry weights.now }

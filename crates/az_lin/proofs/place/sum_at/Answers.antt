@@ -5,7 +5,7 @@ use Rattle.std.proofs.lemmas.List.Elements.{All-get_or}
 use Rattle.az_lin.specs.Affine.{IsEntry}
 use Rattle.az_lin.specs.Substitution.{entry_at, entries}
 use Rattle.az_lin.proofs.Dot.{product_fits, sum_fits, word_sum_is, sum_stays_small, dot-step}
-use Rattle.az_lin.proofs.combination.combine.Goals as goal
+use Rattle.az_lin.proofs.place.sum_at.Goals as goal
 
 pub overflow_mul-sum : goal.overflow_mul-sum
 overflow_mul-sum c =

@@ -6,7 +6,15 @@ use Rattle.alphabets_read.specs.Expected.{Picks}
 
 pub kinds-picks : (form : Form) → Picks (kinds form) form
 kinds-picks form = record {
-  program = refl; output = refl; declared = refl; low = refl; high = refl; index = refl; factor = refl; offset = refl }
+  program = refl;
+  output = refl;
+  declared = refl;
+  low = refl;
+  high = refl;
+  index = refl;
+  factor = refl;
+  offset = refl;
+}
 
 pub picks_of_spelled : (ks : List TokenKind) (form : Form) → ks ≡ kinds form → Picks ks form
 picks_of_spelled ks form e = subst (λ l. Picks l form) (sym e) (kinds-picks form)
@@ -14,7 +22,15 @@ picks_of_spelled ks form e = subst (λ l. Picks l form) (sym e) (kinds-picks for
 -- a form by its parts
 made : List ℕ → List ℕ → List ℕ → ℕ → ℕ → List ℕ → ℕ → ℕ → Form
 made program output declared low high index factor offset = record {
-  program = program; output = output; declared = declared; low = low; high = high; index = index; factor = factor; offset = offset }
+  program = program;
+  output = output;
+  declared = declared;
+  low = low;
+  high = high;
+  index = index;
+  factor = factor;
+  offset = offset;
+}
 
 made_of_parts : (f : Form) → made f.program f.output f.declared f.low f.high f.index f.factor f.offset ≡ f
 unfolding made

@@ -31,7 +31,8 @@ numbers_are_small tokens form has = record {
   low = small_at tokens has.short 10 form.low (number_is tokens form 10 form.low has.spelled refl);
   high = small_at tokens has.short 14 form.high (number_is tokens form 14 form.high has.spelled refl);
   factor = small_at tokens has.short 24 form.factor (number_is tokens form 24 form.factor has.spelled refl);
-  offset = small_at tokens has.short 28 form.offset (number_is tokens form 28 form.offset has.spelled refl) }
+  offset = small_at tokens has.short 28 form.offset (number_is tokens form 28 form.offset has.spelled refl);
+}
 
 pub of_form : (answer : Result System ReadFault) (form : Form) → HasSmallNumbers form → IfOk answer (λ p. p ≡ program_of form) → IfOk answer (λ p. IsOfForm p)
 of_form (Ok p) form small meant = record { form = form; small = small; meant = meant }

@@ -15,8 +15,15 @@ kind_of (Mark mark) = kind.Mark mark
 
 abbrev pub said : Form → first.Form
 said form = record {
-  program = form.program.now; output = form.output.now; declared = form.declared.now; low = form.low; high = form.high;
-  index = form.index.now; factor = form.factor; offset = form.offset }
+  program = form.program.now;
+  output = form.output.now;
+  declared = form.declared.now;
+  low = form.low;
+  high = form.high;
+  index = form.index.now;
+  factor = form.factor;
+  offset = form.offset;
+}
 
 abbrev pub word_of : Option TokenKind → Option (List ℕ)
 word_of None = None

@@ -9,4 +9,3 @@ mod reader;
 
 pub use fault::ReadFault;
 pub use reader::read_program;
-

@@ -88,8 +88,9 @@ impl Form<'_> {
         let variables = one(alloc, output)?;
         let equations = one(alloc, equation)?;
         let program = name(alloc, self.program)?;
-        Program::new(program, List::new(alloc), pdom, variables, equations)
-            .map_err(|_| ReadFault::Memory)
+        Program::new(program, List::new(alloc), pdom, variables, equations).map_err(
+            |_| ReadFault::Memory,
+        )
     }
 }
 
@@ -119,10 +120,6 @@ pub fn read_program(alloc: Global, text: &[u8]) -> Result<Program, ReadFault>
     };
     match Form::of_tokens(tokens.as_slice()) {
         Ok(form) => form.program(alloc),
-        Err(number) => Err(ReadFault::Syntax(place_of(
-            tokens.as_slice(),
-            number,
-            text,
-        ))),
+        Err(number) => Err(ReadFault::Syntax(place_of(tokens.as_slice(), number, text))),
     }
 }

@@ -25,4 +25,4 @@ pub fits_at : {A B : Type 0} (fits : B → Type 0) (f : A → B) (own items : Li
 fits_at fits f own items i item here is same all =
     let place : i < length (map f items) = rw (length-map, ← same) here in
     subst fits (get_or-map f items i item (f item) (rw (← same) here) ∙ ap (λ xs. f (get_or xs i item)) (sym same) ∙ ap f (sym is))
-      (All-get_or fits (map f items) i (f item) place all)
+    (All-get_or fits (map f items) i (f item) place all)

@@ -20,6 +20,7 @@ value_at-negated row z = omega (arith, ints, dot-negated row.coefs z)
 
 pub negated_holds : (row : Affine) (z : List ℤ) → IsAtLeastZero z (negated row) ↔ (IsAtLeastZero z row → ⊥)
 negated_holds row z =
-    let value : value_at (negated row) z ≡ neg_ℤ (value_at row z) -ℤ pos 1 = value_at-negated row z in
-    (λ h g. omega (arith, ints, value, h, g),
-     λ none. by_lt_z (value_at row z) (pos 0) (λ below. omega (arith, ints, value, below)) (λ above. absurd (none above)))
+    let value : value_at (negated row) z ≡ neg_ℤ (value_at row z) -ℤ pos 1 = value_at-negated row z in (
+      λ h g. omega (arith, ints, value, h, g),
+      λ none. by_lt_z (value_at row z) (pos 0) (λ below. omega (arith, ints, value, below)) (λ above. absurd (none above)),
+    )

@@ -15,13 +15,13 @@ pub coefs-preserved : goal.coefs-preserved
 coefs-preserved c =
     let pushed : c.push.new.self.items ≡ c.coefs.coefs.items ++ c.negative.result ∷ [] = search rules in
     map-take-more neg_ℤ c.coefs-coef-items.result.now c.coefs.coef-index (pos 0) c.negative.result c.coefs.coefs.items c.push.new.self.items
-      c.coefs-test.true c.coefs.invariant c.negative.ensures.value pushed
+    c.coefs-test.true c.coefs.invariant c.negative.ensures.value pushed
 
 exact : (c : goal.After-checked) → IsExactly HasEntries (negated c.args.self.now) c.checked.result
 exact c =
     let full : c.coefs.coef-index ≡ length c.coefs-coef-items.result.now = omega arith in
     let coefs : c.coefs.coefs.items ≡ (negated c.args.self.now).coefs =
-      map-take-all neg_ℤ c.coefs-coef-items.result.now c.args.self.now.coefs c.coefs.coef-index c.coefs.coefs.items c.coefs.invariant full c.coefs-coef-items.ensures.value in
+    map-take-all neg_ℤ c.coefs-coef-items.result.now c.args.self.now.coefs c.coefs.coef-index c.coefs.coefs.items c.coefs.invariant full c.coefs-coef-items.ensures.value in
     let konst : to_z w128 (of_z w128 (to_z w128 (of_z w128 c.negative-2.result) -ℤ pos 1)) ≡ (negated c.args.self.now).konst = omega (arith, ints) in
     subst (λ row. IsExactly HasEntries row c.checked.result) (row_is _ _ _ coefs konst) c.checked.ensures
 
@@ -31,4 +31,4 @@ returns-clause-exact c = exact c
 pub returns-clause-meaning : goal.returns-clause-meaning
 returns-clause-meaning c = λ z.
     ok_from_exactly HasEntries (negated c.args.self.now) (λ row. IsAtLeastZero z row ↔ (IsAtLeastZero z c.args.self.now → ⊥)) c.checked.result
-      (exact c) (negated_holds c.args.self.now z)
+    (exact c) (negated_holds c.args.self.now z)

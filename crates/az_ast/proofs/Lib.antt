@@ -1,4 +1,6 @@
+pub mod Laws
 pub mod MapLemmas
+pub mod Members
 pub mod PlainSteps
 pub mod Ramp
 pub mod ReadLemmas

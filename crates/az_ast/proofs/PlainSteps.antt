@@ -1,9 +1,9 @@
 -- Why the plain evaluation ends, and what its steps over an expression's forms find.
-use Rattle.std.proofs.Common.{◌≡◌, ℕ, zero, suc, ◌+◌, ◌-◌, ◌*◌, ◌<◌, ◌≤◌, List, [], ◌∷◌, ◌++◌, length, take, drop, Bool, true, false, cond, Some, None, Option, refl, sym, ap, subst, ◌∙◌, arith, inl, inr, take-append-drop, length-take-le}
+use Rattle.std.proofs.Common.{◌≡◌, ℕ, zero, suc, ◌+◌, ◌-◌, ◌*◌, ◌<◌, ◌≤◌, List, [], ◌∷◌, ◌++◌, length, take, drop, Bool, true, false, cond, Some, Option, refl, sym, ap, subst, ◌∙◌, arith, inl, inr, take-append-drop, length-take-le}
 use Rattle.std.proofs.Math.Seq.{take_at, drop_at}
 use Rattle.std.proofs.Math.Nat.{suc-mul}
-use Rattle.std.specs.Prelude.{ℤ, pos, slice_get, map, sum_by, find, ◌==◌, ◌⊎◌, unwrap_or}
-use Rattle.az_lin.specs.Affine.{Affine, AffineMap, Union, value_at, image_of, HoldsSome}
+use Rattle.std.specs.Prelude.{ℤ, pos, slice_get, map, ◌==◌, unwrap_or}
+use Rattle.az_lin.specs.Affine.{Affine, AffineMap, value_at, image_of, HoldsSome}
 use Rattle.az_ast.specs.declared.op.Op.{Op}
 use Rattle.az_ast.specs.declared.op.Op.TheVariants.{Sub}
 use Rattle.az_ast.specs.declared.expr.Expr.{Expr}

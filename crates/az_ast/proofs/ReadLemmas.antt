@@ -1,5 +1,5 @@
 -- What a read of a declared variable has, and where it stops.
-use Rattle.std.proofs.Common.{◌≡◌, ℕ, List, ◌++◌, length, Some, None, Option, refl, sym, ap, subst, ◌∙◌, inl, inr}
+use Rattle.std.proofs.Common.{◌≡◌, ℕ, List, ◌++◌, length, Some, None, Option, sym, ap, subst, inl, inr}
 use Rattle.std.specs.Prelude.{ℤ, slice_get, MatchOption, ◌⊎◌, option_map}
 use Rattle.az_ast.specs.declared.program.Equation.{Equation}
 use Rattle.az_lin.specs.Affine.{HoldsSome}

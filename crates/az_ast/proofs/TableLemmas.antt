@@ -89,3 +89,14 @@ module _ (z : List ℤ) where
         | inl l ↦ (let f = parts.0 k d (omega arith) l in cc)
         | inr g ↦ (let f = parts.1 k d g h in cc)
       ])
+
+pub Precedes-chain : (a b c : List ℤ) → Precedes a b → Precedes b c → Precedes a c
+Precedes-chain a b c h k = points_total.trans a b c h k
+
+-- a table gives one value at a point
+pub TableGives-unique : (rows : Rows) (z : List ℤ) (v w : ℤ) → TableGives rows z v → TableGives rows z w → v ≡ w
+TableGives-unique [] z v w g h = absurd g
+TableGives-unique (row ∷ rows) z v w g h =
+    ⊎_elim
+    (λ a. ⊎_elim (λ b. sym a.1 ∙ b.1) (λ b. absurd (b.0 a.0)) h)
+    (λ a. ⊎_elim (λ b. absurd (a.0 b.0)) (λ b. TableGives-unique rows z v w a.1 b.1) h) g

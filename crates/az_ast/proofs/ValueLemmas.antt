@@ -1,5 +1,5 @@
 -- What the plain evaluation finds for an expression, from what it finds for its parts.
-use Rattle.std.proofs.Common.{◌≡◌, ℕ, zero, suc, ◌<◌, ◌≤◌, List, [], ◌∷◌, ◌++◌, length, take, drop, Some, None, Option, refl, sym, ap, subst, ◌∙◌, arith, inl, inr, ⊎_elim}
+use Rattle.std.proofs.Common.{◌≡◌, ℕ, zero, suc, List, [], ◌∷◌, ◌++◌, length, Some, refl, sym, ap, subst, arith, inl, inr, ⊎_elim}
 use Rattle.std.specs.Prelude.{ℤ, pos, slice_get, map, ◌⊎◌, unwrap_or}
 use Rattle.az_lin.specs.Affine.{Union, HoldsSome}
 use Rattle.az_ast.specs.declared.op.Op.{Op}
@@ -10,7 +10,7 @@ use Rattle.az_ast.specs.declared.plain.Found.{Found}
 use Rattle.az_ast.specs.declared.plain.Found.TheVariants as found
 use Rattle.az_ast.specs.Chosen.{FoundIs, found_map, NoneBefore, LeadsToBody}
 use Rattle.az_ast.specs.Meaning.{Reads, TermGives, ChoiceGives, ValueBelow, ValueTo, ReadTo}
-use Rattle.az_ast.specs.Operators.{wrapped, applied}
+use Rattle.az_ast.specs.Operators.{applied}
 use Rattle.az_ast.specs.Plain.{IsUnreadable, ReadsStop, TermStops, ChoiceStops, StopsBelow, StopsTo, ReadStopsTo}
 use Rattle.az_ast.specs.System.{System}
 use Rattle.az_ast.specs.Tables.{Tables}

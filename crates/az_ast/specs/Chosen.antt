@@ -1,5 +1,5 @@
 -- What the plain evaluation answers, and its steps.
-use Rattle.std.specs.Prelude.{◌≡◌, ℕ, ◌<◌, ◌≤◌, ℤ, List, ◌++◌, length, slice_get, Option, Some, None, IsSome}
+use Rattle.std.specs.Prelude.{◌≡◌, ℕ, ◌<◌, ℤ, List, ◌++◌, length, slice_get, Some}
 use Rattle.az_lin.specs.Affine.{HoldsSome}
 use Rattle.az_ast.specs.declared.expr.Branch.{Branch}
 use Rattle.az_ast.specs.declared.plain.Found.{Found}

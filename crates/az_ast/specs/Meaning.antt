@@ -8,7 +8,7 @@
 -- The columns of a point are the parameters, the equation's indices, and the extra indices of the
 -- enclosing reductions from outside to inside. So an access `X[f]` at `z` reads X at the parameters of
 -- `z`, its first columns, and the indices `f(z)`.
-use Rattle.std.specs.Prelude.{◌≡◌, ℕ, zero, suc, ℤ, pos, List, [], ◌∷◌, ◌++◌, length, take, ◌⊎◌, fold, slice_get, find, ◌==◌, option_map, Option, Some, None, MatchOption}
+use Rattle.std.specs.Prelude.{◌≡◌, ℕ, zero, suc, ℤ, pos, List, ◌++◌, length, take, ◌⊎◌, fold, slice_get, find, ◌==◌, option_map, Option, MatchOption}
 use Rattle.std.specs.List.{AllZip}
 use Rattle.az_lin.specs.Affine.{Union, value_at, image_of, HoldsSome}
 use Rattle.az_ast.specs.declared.op.Op.{Op}

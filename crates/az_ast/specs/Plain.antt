@@ -1,9 +1,7 @@
 -- Where the plain evaluation stops without an answer: it computes rows only at points of the row's
 -- width, of at most 64 coordinates within ±(2^40 - 1), and it looks for no points of a reduction.
-use Rattle.std.specs.Prelude.{◌≡◌, ℕ, zero, suc, ◌≤◌, ℤ, List, [], ◌∷◌, ◌++◌, length, take, All, ◌⊎◌, slice_get, MatchOption}
-use Rattle.az_lin.specs.Affine.{AffineMap, IsCoordinate, image_of, HoldsSome}
-use Rattle.az_ast.specs.declared.program.Role.{Role}
-use Rattle.az_ast.specs.declared.program.Role.TheVariants.{Input, Output, Local}
+use Rattle.std.specs.Prelude.{◌≡◌, ℕ, zero, suc, ◌≤◌, ℤ, List, ◌++◌, length, take, All, ◌⊎◌, slice_get, MatchOption}
+use Rattle.az_lin.specs.Affine.{IsCoordinate, image_of}
 use Rattle.az_ast.specs.Meaning.{body_of, RoleGives}
 use Rattle.az_ast.specs.System.{System}
 use Rattle.az_ast.specs.Term.{Term, constant, index, access, negation, binary, cases, reduction, Choices, none, choice}

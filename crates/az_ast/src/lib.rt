@@ -3,6 +3,7 @@
 //! `specs/Meaning.antt` says which value an output or local has at a point.
 #![tactic(auto)]
 
+mod checked;
 mod expr;
 mod fault;
 mod inputs;
@@ -12,11 +13,15 @@ mod point;
 mod program;
 mod reason;
 mod table;
+#[cfg(test)]
+mod tests;
 
+pub use checked::Checked;
 pub use expr::{Branch, Expr};
 pub use fault::{ShapeFault, ShapeKind};
 pub use inputs::{Inputs, Values};
 pub use op::{Op, apply_op, identity_of, wrap};
+pub use plain::{Found, value_to};
 pub use program::{Equation, Program, Role, Variable};
 pub use reason::Reason;
 pub use table::Table;

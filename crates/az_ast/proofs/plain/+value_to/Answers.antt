@@ -1,21 +1,17 @@
-use Rattle.std.proofs.Common.{rules, ◌≡◌, ℕ, ◌+◌, ◌*◌, ◌<◌, ◌≤◌, List, ◌++◌, length, ◌-◌, take, drop, Some, None, Ok, Err, refl, sym, ap, subst, ◌∙◌, arith, inl, inr}
-use Rattle.std.specs.Prelude.{ℤ, pos, slice_get, IfOk, Result, FitsSigned}
+use Rattle.std.proofs.Common.{rules, ◌≡◌, ℕ, ◌<◌, ◌≤◌, ◌++◌, length, ◌-◌, take, Ok, Err, sym, ap, subst, ◌∙◌, arith}
+use Rattle.std.specs.Prelude.{IfOk, Result, FitsSigned}
 use Rattle.std.specs.Int.{w64, cast_signed as to_z, cast_unsigned as of_z}
 use Rattle.std.proofs.lemmas.Int.{to_z-of_z}
 use Rattle.az_lin.specs.Affine.{image_of}
-use Rattle.az_ast.specs.declared.fault.ShapeFault.{ShapeFault}
-use Rattle.az_ast.specs.declared.expr.Expr.{Expr}
 use Rattle.az_ast.specs.declared.expr.Expr.TheVariants.{Cases}
-use Rattle.az_ast.specs.declared.op.Op.TheVariants.{Sub}
 use Rattle.az_ast.specs.Nodes.{nodes}
 use Rattle.az_ast.specs.Term.{term}
 use Rattle.az_ast.proofs.Terms.{term-Cases}
-use Rattle.az_ast.specs.declared.plain.Found.{Found}
 use Rattle.az_ast.specs.declared.plain.Found.TheVariants as found
-use Rattle.az_ast.specs.Chosen.{FoundIs, found_map, LeadsToBody}
+use Rattle.az_ast.specs.Chosen.{found_map, LeadsToBody}
 use Rattle.az_ast.specs.Operators.{applied}
 use Rattle.az_ast.specs.Plain.{IsReadable, IsUnreadable}
-use Rattle.az_ast.proofs.PlainSteps.{Target, index-step, read-step, body-step, no_depth-step, negation-step, binary-step, left-step, branch-step, no_branch-step, stopped-step, all_nodes, body-nodes, branch-nodes, depth_falls}
+use Rattle.az_ast.proofs.PlainSteps.{Target, index-step, read-step, body-step, negation-step, binary-step, left-step, branch-step, no_branch-step, stopped-step, all_nodes, body-nodes, branch-nodes, depth_falls}
 use Rattle.az_ast.proofs.plain.+value_to.Goals as goal
 
 pub returns-in-Index-clause-ok : goal.returns-in-Index-clause-ok

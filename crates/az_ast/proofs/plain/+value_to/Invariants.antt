@@ -1,4 +1,4 @@
-use Rattle.std.proofs.Common.{ℕ, ◌+◌, ◌*◌}
+use Rattle.std.proofs.Common.{◌+◌, ◌*◌}
 use Rattle.az_ast.specs.Nodes.{nodes}
 use Rattle.az_ast.specs.Term.{term}
 use Rattle.az_ast.proofs.PlainSteps.{all_nodes}

@@ -1,10 +1,8 @@
-use Rattle.std.proofs.Common.{rules, ◌≡◌, ℕ, ◌+◌, ◌<◌, ◌≤◌, Some, refl, sym, ap, subst, ◌∙◌, arith, inl, inr, ⊎_elim}
+use Rattle.std.proofs.Common.{rules, ◌≡◌, Some, refl, sym, ap, subst, ◌∙◌, arith, ⊎_elim}
 use Rattle.std.specs.Prelude.{slice_get, unwrap_or}
 use Rattle.std.proofs.lemmas.Bool.{cases_lt}
 use Rattle.std.proofs.lemmas.Option.{slice_get_read}
 use Rattle.az_lin.specs.Affine.{HoldsSome}
-use Rattle.az_ast.specs.declared.expr.Branch.{Branch}
-use Rattle.az_ast.specs.Chosen.{NoneBefore}
 use Rattle.az_ast.specs.Plain.{IsReadable}
 use Rattle.az_ast.proofs.plain.first_holding.Goals as goal
 

@@ -1,10 +1,10 @@
-use Rattle.std.proofs.Common.{rules, ◌≡◌, ℕ, List, ◌++◌, length, take, drop, Some, None, refl, sym, ap, subst, ◌∙◌, arith, inl, inr, take-append-drop}
+use Rattle.std.proofs.Common.{rules, ◌≡◌, ℕ, List, ◌++◌, length, take, drop, Some, None, refl, sym, subst, take-append-drop}
 use Rattle.std.specs.Prelude.{ℤ, slice_get}
 use Rattle.az_lin.specs.Affine.{HoldsSome}
 use Rattle.az_ast.specs.declared.plain.Found.{Found}
 use Rattle.az_ast.specs.declared.plain.Found.TheVariants as found
 use Rattle.az_ast.specs.declared.program.Variable.{Variable}
-use Rattle.az_ast.specs.Chosen.{IsInput, LeadsToBody, FoundIs}
+use Rattle.az_ast.specs.Chosen.{IsInput, FoundIs}
 use Rattle.az_ast.specs.Meaning.{ValueBelow, ReadTo, equation_of}
 use Rattle.az_ast.specs.Plain.{IsUnreadable, StopsBelow, ReadStopsTo}
 use Rattle.az_ast.specs.System.{System}

@@ -1,0 +1,44 @@
+//! A program that was found to be certified.
+
+ghost use Rattle.std.specs.Prelude.{◌≡◌};
+ghost use Rattle.az_ast.specs.Certified.{IsCertified};
+
+use crate::Program;
+use std::marker::Model;
+
+/// Its domains are finite, its branches cover and don't overlap, and its reads stay within.
+#[derive(Debug, Drop)]
+pub struct Checked {
+    program: Program,
+}
+
+impl Model for Checked {
+    ghost use Rattle.std.specs.Coded.{codes};
+    ghost use Rattle.az_ast.specs.contracts.expr.Expr as e;
+    ghost use Rattle.az_ast.specs.System.{System};
+    ghost use Rattle.az_ast.specs.Certified.{IsCertified};
+
+    ghost Value = { System };
+
+    ghost coded = { Prim.hlevel (codes, e.the_row.coded) };
+
+    ghost view = { λ checked. checked.program };
+
+    ghost invariant = { λ checked. IsCertified checked.program };
+}
+
+impl Checked {
+    pub fn new(program: Program) -> Checked
+        requires { IsCertified program }
+        ensures { result ≡ program }
+    {
+        Checked { program }
+    }
+
+    pub fn program(&self) -> &Program
+        ensures value { result.now ≡ self.now }
+        ensures certified { IsCertified result.now }
+    {
+        &self.program
+    }
+}

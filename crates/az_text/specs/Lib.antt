@@ -1,0 +1,4 @@
+pub mod Tokens
+pub mod Reading
+pub mod Fronts
+pub mod Pieces

@@ -1,0 +1,5 @@
+pub mod LookAhead
+pub mod Leaves
+pub mod Token
+pub mod Mapped
+pub mod Sequence

@@ -1,0 +1,75 @@
+-- Readers as functions on token lists, one for each way of building a rule. A reader is given a budget
+-- of weight and the tokens, and decides by the next token alone, by sets that are written out.
+use Rattle.std.specs.Prelude.{ℕ, zero, suc, ◌+◌, ◌-◌, min, Bool, true, false, if◌then◌else◌, nat_le, List, [], ◌∷◌, length, Option, Some, None}
+use Rattle.grammar_rules.specs.Rules.{has}
+
+-- what a reader answers: a value, with the tokens and the budget that are left; that the first of these
+-- tokens can't go on, or that more would have to follow; or that the budget is exceeded
+pub data Answer (T A : Type 0) : Type 0 where
+  got : A → List T → ℕ → Answer T A
+  wrong : List T → Answer T A
+  large : Answer T A
+
+abbrev pub Reader : Type 0 → Type 0 → Type 0
+Reader T A = ℕ → List T → Answer T A
+
+-- go on from an answer
+abbrev pub after : {T A B : Type 0} → Answer T A → (A → Reader T B) → Answer T B
+after (got a rest budget) go_on = go_on a budget rest
+after (wrong rest) go_on = wrong rest
+after large go_on = large
+
+-- the look-ahead: the next token is in the set
+abbrev pub sees : {T : Type 0} → (T → ℕ) → List ℕ → List T → Bool
+sees class set [] = false
+sees class set (t ∷ ts) = has set (class t)
+
+abbrev pub spend : {T A : Type 0} → ℕ → A → Reader T A
+spend weight a budget rest = if nat_le weight budget then got a rest (budget - weight) else large
+
+abbrev pub read_token : {T : Type 0} → (T → ℕ) → ℕ → List ℕ → Reader T T
+read_token class weight set budget [] = wrong []
+read_token class weight set budget (t ∷ ts) = if has set (class t) then spend weight t budget ts else wrong (t ∷ ts)
+
+abbrev pub read_nothing : {T A : Type 0} → A → Reader T A
+read_nothing a budget ts = got a ts budget
+
+abbrev pub read_mapped : {T A B : Type 0} → (A → B) → Reader T A → Reader T B
+read_mapped f p budget ts = after (p budget ts) (λ a. read_nothing (f a))
+
+abbrev pub read_then : {T A B : Type 0} → Reader T A → (A → Reader T B) → Reader T B
+read_then p go_on budget ts = after (p budget ts) go_on
+
+abbrev pub read_sequence : {T A B C : Type 0} → (A → B → C) → Reader T A → Reader T B → Reader T C
+read_sequence f p q = read_then p (λ a. read_mapped (f a) q)
+
+abbrev pub read_choice : {T A : Type 0} → (T → ℕ) → List ℕ → Reader T A → Reader T A → Reader T A
+read_choice class set p q budget ts = if sees class set ts then p budget ts else q budget ts
+
+abbrev pub read_optional : {T A : Type 0} → (T → ℕ) → List ℕ → Reader T A → Reader T (Option A)
+read_optional class set p = read_choice class set (read_mapped Some p) (read_nothing None)
+
+-- at most `turns` members, each put to the value so far
+abbrev pub read_turns : {T A B : Type 0} → (T → ℕ) → List ℕ → (A → B → A) → Reader T B → ℕ → A → Reader T A
+read_turns class set step q zero a budget ts = got a ts budget
+read_turns class set step q (suc turns) a budget ts =
+    if sees class set ts then after (q budget ts) (λ b. read_turns class set step q turns (step a b)) else got a ts budget
+
+-- members as long as the next token is in the set; each takes a token at least
+abbrev pub read_onto : {T A B : Type 0} → (T → ℕ) → List ℕ → (A → B → A) → Reader T B → A → Reader T A
+read_onto class set step q a budget ts = read_turns class set step q (length ts) a budget ts
+
+abbrev pub read_left : {T A B : Type 0} → (T → ℕ) → List ℕ → (A → B → A) → Reader T A → Reader T B → Reader T A
+read_left class set step p q = read_then p (read_onto class set step q)
+
+abbrev pub capped : {T A : Type 0} → ℕ → Answer T A → Answer T A
+capped budget (got a rest remaining) = got a rest (min budget remaining)
+capped budget (wrong rest) = wrong rest
+capped budget large = large
+
+abbrev pub read_fresh : {T A : Type 0} → ℕ → Reader T A → Reader T A
+read_fresh limit p budget ts = capped budget (p (budget + limit) ts)
+
+abbrev pub read_level : {T A : Type 0} → (Reader T A → Reader T A) → ℕ → Reader T A
+read_level body zero budget ts = wrong ts
+read_level body (suc n) budget ts = body (read_level body n) budget ts

@@ -3,3 +3,5 @@ pub mod Leaves
 pub mod Token
 pub mod Mapped
 pub mod Sequence
+pub mod Choice
+pub mod Many

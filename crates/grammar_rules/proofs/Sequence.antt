@@ -73,7 +73,7 @@ sequence_shaped class one two f p q first second = record {
 }
 
 -- what is said of both parts together
-rejoin : {T : Type 0} (us vs rest later ts : List T) → ts ≡ us ++ rest → rest ≡ vs ++ later → ts ≡ (us ++ vs) ++ later
+pub rejoin : {T : Type 0} (us vs rest later ts : List T) → ts ≡ us ++ rest → rest ≡ vs ++ later → ts ≡ (us ++ vs) ++ later
 rejoin us vs rest later ts split next = split ∙ ap (us ++◌) next ∙ sym (append_assoc us vs later)
 
 says_second : {T A B C : Type 0} (f : A → B → C) (p : Rule T A) (q : Rule T B) (b : ℕ) (ts us rest : List T) (v remaining : ℕ) (a : A)
@@ -189,20 +189,26 @@ sequence_exact_of class one two f guard depth sure p sure' q first second parts 
   shaped = sequence_shaped class one two f p q parts.exact.shaped (λ a. (parts.exact' a).shaped);
 }
 
+-- A sequence whose second reader uses the first one's value.
+pub sequence_exact_then : {T A B C : Type 0} {class : T → ℕ} {one two : Shape} {depth : ℕ} {sure p : Rule T A} {sure' q : Rule T B} {first : Reader T A} {second : A → Reader T C} (f : A → B → C)
+    → Exact class one depth sure p first → ((a : A) → Exact class two depth (mapped_to (f a) sure') (mapped_to (f a) q) (second a)) → is_disjoint two.first one.more ≡ true
+    → Exact class (sequence_shape one two) depth (sequence f sure sure') (sequence f p q) (read_then first second)
+sequence_exact_then {class = class} {one = one} {two = two} {depth = depth} {sure = sure} {p = p} {sure' = sure'} {q = q} {first = first} {second = second} f exact exact' apart =
+    let same : 0 + depth ≡ depth = omega arith in
+    subst (λ (n : ℕ). Exact class (sequence_shape one two) n (sequence f sure sure') (sequence f p q) (read_then first second)) same
+    (sequence_exact_of class one two f 0 depth sure p sure' q first second
+    (record {
+      exact = subst (λ (n : ℕ). Exact class one n sure p first) (sym same) exact;
+      guarded = λ us w a t. omega arith;
+      exact' = exact';
+      apart = apart;
+    }))
+
 -- A sequence of two parts.
 pub sequence_exact : {T A B C : Type 0} {class : T → ℕ} {one two : Shape} {depth : ℕ} {sure p : Rule T A} {sure' q : Rule T B} {first : Reader T A} {second : Reader T B} (f : A → B → C)
     → Exact class one depth sure p first → Exact class two depth sure' q second → is_disjoint two.first one.more ≡ true
     → Exact class (sequence_shape one two) depth (sequence f sure sure') (sequence f p q) (read_sequence f first second)
-sequence_exact {class = class} {one = one} {two = two} {depth = depth} {sure = sure} {p = p} {sure' = sure'} {q = q} {first = first} {second = second} f exact exact' apart =
-    let same : 0 + depth ≡ depth = omega arith in
-    subst (λ (n : ℕ). Exact class (sequence_shape one two) n (sequence f sure sure') (sequence f p q) (read_sequence f first second)) same
-    (sequence_exact_of class one two f 0 depth sure p sure' q first (λ a. read_mapped (f a) second)
-    (record {
-      exact = subst (λ (n : ℕ). Exact class one n sure p first) (sym same) exact;
-      guarded = λ us w a t. omega arith;
-      exact' = λ a. mapped_exact (f a) exact';
-      apart = apart;
-    }))
+sequence_exact f exact exact' apart = sequence_exact_then f exact (λ a. mapped_exact (f a) exact') apart
 
 -- A token and what stands behind it, which may be read deeper by the token's weight.
 token_weighs : {T : Type 0} (class : T → ℕ) (weight : ℕ) (set : List ℕ) (us : List T) (w : ℕ) (t : T) → TakesToken class weight set us w t → weight ≤ w

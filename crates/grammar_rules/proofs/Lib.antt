@@ -5,3 +5,5 @@ pub mod Mapped
 pub mod Sequence
 pub mod Choice
 pub mod Many
+pub mod Fresh
+pub mod Recursive

@@ -1,16 +1,16 @@
 -- The law of a repetition, whose members are put to a value one after the other, and of a part with
 -- members that are grouped to it from the left.
 use Rattle.std.proofs.Common.{◌≡◌, ℕ, zero, suc, ◌+◌, ◌-◌, ◌<◌, ◌≤◌, Bool, true, false, if◌then◌else◌, List, [], ◌∷◌, ◌++◌, ◌⊎◌, inl, inr, length, arith, refl, sym, ◌∙◌, ap, subst, append_assoc, append-nil, add_assoc, zero-add, length-append}
-use Rattle.grammar_rules.specs.Rules.{Rule, many, mapped_to, grouped, left, sequence, TakesMany, FrontOfMany, TakesMapped}
+use Rattle.grammar_rules.specs.Rules.{Rule, many, mapped_to, grouped, left, single, put_last, list_of, sequence, TakesMany, FrontOfMany, TakesMapped}
 use Rattle.grammar_rules.specs.Rules.TakesMany.{no_more, one_more}
 use Rattle.grammar_rules.specs.Rules.FrontOfMany.{of_next, after_one}
 use Rattle.grammar_rules.specs.Rules.TakesMapped.{mapped}
-use Rattle.grammar_rules.specs.Readers.{Answer, Reader, after, sees, read_turns, read_onto, read_left, read_then}
+use Rattle.grammar_rules.specs.Readers.{Answer, Reader, after, sees, read_turns, read_onto, read_left, read_many, read_list_of, read_then}
 use Rattle.grammar_rules.specs.Readers.Answer.{got, wrong, large}
 use Rattle.grammar_rules.specs.Exactness.{Shape, HasShape, Exact, Says, LeavesAtMost, BeginsIn, IsLight, is_subset, is_disjoint, many_shape, sequence_shape}
 use Rattle.grammar_rules.proofs.LookAhead.{append-has_left, append-has_right, has_disjoint, has_subset, sees_left, sees_right}
 use Rattle.grammar_rules.proofs.Leaves.{leaves_all, leaves_as, leaves_less, or_at_most}
-use Rattle.grammar_rules.proofs.Mapped.{mapped_shaped}
+use Rattle.grammar_rules.proofs.Mapped.{mapped_shaped, mapped_exact, same_exact}
 use Rattle.grammar_rules.proofs.Sequence.{rejoin, sequence_exact_then}
 
 -- the heads under which members are read
@@ -214,8 +214,24 @@ pub left_exact : {T A B : Type 0} {class : T → ℕ} {one two : Shape} {depth :
 left_exact {class = class} {one = one} {two = two} {depth = depth} {sure = sure} {p = p} {sure' = sure'} {q = q} {first = first} {reader = reader} set step exact exact' filled inside apart apart' =
     sequence_exact_then (grouped step) exact (onto_exact class set two depth sure' q reader step (record { exact = exact'; filled = filled; inside = inside; apart = apart })) apart'
 
+grouped_in_order : {B : Type 0} (xs ys : List B) → grouped put_last xs ys ≡ xs ++ ys
+grouped_in_order xs [] = sym (append-nil xs)
+grouped_in_order xs (y ∷ ys) = grouped_in_order (xs ++ (y ∷ [])) ys ∙ append_assoc xs (y ∷ []) ys
+
+in_order : {B : Type 0} (ys : List B) → grouped put_last [] ys ≡ ys
+in_order ys = grouped_in_order [] ys
+
 -- Members alone, in a list.
 pub many_exact : {T B : Type 0} {class : T → ℕ} {one : Shape} {depth : ℕ} {sure q : Rule T B} {reader : Reader T B} (set : List ℕ)
     → Exact class one depth sure q reader → one.empty ≡ false → is_subset one.first set ≡ true → is_disjoint one.first one.more ≡ true
     → Exact class (many_shape set one) depth (many sure) (many q) (read_many class set reader)
-many_exact set exact filled inside apart = ?
+many_exact {class = class} {one = one} {depth = depth} {sure = sure} {q = q} {reader = reader} set exact filled inside apart =
+    same_exact (grouped put_last []) (many sure) (many q) in_order
+    (onto_exact class set one depth sure q reader put_last (record { exact = exact; filled = filled; inside = inside; apart = apart }) [])
+
+-- A first item, and those behind it.
+pub list_of_exact : {T A : Type 0} {class : T → ℕ} {one two : Shape} {depth : ℕ} {sure p sure' q : Rule T A} {first reader : Reader T A} (set : List ℕ)
+    → Exact class one depth sure p first → Exact class two depth sure' q reader
+    → two.empty ≡ false → is_subset two.first set ≡ true → is_disjoint two.first two.more ≡ true → is_disjoint two.first one.more ≡ true
+    → Exact class (sequence_shape one (many_shape set two)) depth (list_of sure sure') (list_of p q) (read_list_of class set first reader)
+list_of_exact set exact exact' filled inside apart apart' = left_exact set put_last (mapped_exact single exact) exact' filled inside apart apart'

@@ -1,5 +1,5 @@
 -- The law of a rule with another value.
-use Rattle.std.proofs.Common.{◌≡◌, ℕ, ◌+◌, ◌<◌, ◌≤◌, List, [], ◌∷◌, ◌++◌, refl}
+use Rattle.std.proofs.Common.{◌≡◌, ℕ, ◌+◌, ◌<◌, ◌≤◌, List, [], ◌∷◌, ◌++◌, refl, sym, subst, ◌∙◌, ap}
 use Rattle.grammar_rules.specs.Rules.{Rule, mapped_to, TakesMapped}
 use Rattle.grammar_rules.specs.Rules.TakesMapped.{mapped}
 use Rattle.grammar_rules.specs.Readers.{Answer, Reader, after, read_nothing, read_mapped}
@@ -45,4 +45,33 @@ mapped_exact f {sure = sure} {rule = rule} {reader = reader} exact = record {
   exceeds = λ b us rest w in_depth front over. rw (exact.exceeds b us rest w in_depth front over) refl;
   sure_shape = mapped_shaped f exact.sure_shape;
   shaped = mapped_shaped f exact.shaped;
+}
+
+-- A value that comes to itself.
+same_takes : {T A : Type 0} (f : A → A) (rule : Rule T A) → ((a : A) → f a ≡ a) → (us : List T) (w : ℕ) (c : A) → TakesMapped f rule us w c → rule.takes us w c
+same_takes f rule is us w c (mapped {a} takes) = subst (λ x. rule.takes us w x) (sym (is a)) takes
+
+same_says : {T A : Type 0} (f : A → A) (rule : Rule T A) → ((a : A) → f a ≡ a) → (b : ℕ) (ts : List T) (answer : Answer T A) → Says (mapped_to f rule) b ts answer → Says rule b ts answer
+same_says f rule is b ts (got a rest remaining) says = (says.0, says.1, says.2, says.3, same_takes f rule is says.0 says.1 a says.4)
+same_says f rule is b ts (wrong rest) says = says
+same_says f rule is b ts large says = says
+
+same_begins : {T A : Type 0} (class : T → ℕ) (shape : Shape) (f : A → A) (rule : Rule T A) → HasShape class shape (mapped_to f rule) → HasShape class shape rule
+same_begins class shape f rule shaped = record {
+  begins = λ us w a takes. shaped.begins us w (f a) (mapped takes);
+  begins_front = shaped.begins_front;
+  light = shaped.light;
+  empty_front = shaped.empty_front;
+  whole_front = λ us w a takes. shaped.whole_front us w (f a) (mapped takes);
+}
+
+pub same_exact : {T A : Type 0} {class : T → ℕ} {shape : Shape} {depth : ℕ} (f : A → A) (sure rule : Rule T A) {reader : Reader T A} → ((a : A) → f a ≡ a)
+    → Exact class shape depth (mapped_to f sure) (mapped_to f rule) reader → Exact class shape depth sure rule reader
+same_exact {class = class} {shape = shape} f sure rule {reader = reader} is exact = record {
+  says = λ b ts. same_says f sure is b ts (reader b ts) (exact.says b ts);
+  gets = λ b us rest w a in_depth takes unseen. exact.gets b us rest w (f a) in_depth (mapped takes) unseen ∙ ap (λ x. got x rest b) (is a);
+  reaches = exact.reaches;
+  exceeds = exact.exceeds;
+  sure_shape = same_begins class shape f sure exact.sure_shape;
+  shaped = same_begins class shape f rule exact.shaped;
 }

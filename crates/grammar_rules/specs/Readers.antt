@@ -1,7 +1,7 @@
 -- Readers as functions on token lists, one for each way of building a rule. A reader is given a budget
 -- of weight and the tokens, and decides by the next token alone, by sets that are written out.
 use Rattle.std.specs.Prelude.{ℕ, zero, suc, ◌+◌, ◌-◌, min, Bool, true, false, if◌then◌else◌, nat_le, List, [], ◌∷◌, length, Option, Some, None}
-use Rattle.grammar_rules.specs.Rules.{has}
+use Rattle.grammar_rules.specs.Rules.{has, single, put_last}
 
 -- what a reader answers: a value, with the tokens and the budget that are left; that the first of these
 -- tokens can't go on, or that more would have to follow; or that the budget is exceeded
@@ -61,6 +61,12 @@ read_onto class set step q a budget ts = read_turns class set step q (length ts)
 
 abbrev pub read_left : {T A B : Type 0} → (T → ℕ) → List ℕ → (A → B → A) → Reader T A → Reader T B → Reader T A
 read_left class set step p q = read_then p (read_onto class set step q)
+
+abbrev pub read_many : {T A : Type 0} → (T → ℕ) → List ℕ → Reader T A → Reader T (List A)
+read_many class set q = read_onto class set put_last q []
+
+abbrev pub read_list_of : {T A : Type 0} → (T → ℕ) → List ℕ → Reader T A → Reader T A → Reader T (List A)
+read_list_of class set p q = read_left class set put_last (read_mapped single p) q
 
 abbrev pub capped : {T A : Type 0} → ℕ → Answer T A → Answer T A
 capped budget (got a rest remaining) = got a rest (min budget remaining)

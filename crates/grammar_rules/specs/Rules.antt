@@ -82,6 +82,16 @@ grouped step a (b ∷ bs) = grouped step (step a b) bs
 abbrev pub left : {T A B : Type 0} → (A → B → A) → Rule T A → Rule T B → Rule T A
 left step p q = sequence (grouped step) p (many q)
 
+-- The items of a list: a first one, and those behind it, each put to the end.
+abbrev pub single : {A : Type 0} → A → List A
+single a = a ∷ []
+
+abbrev pub put_last : {A : Type 0} → List A → A → List A
+put_last as_ a = as_ ++ (a ∷ [])
+
+abbrev pub list_of : {T A : Type 0} → Rule T A → Rule T A → Rule T (List A)
+list_of p q = left put_last (mapped_to single p) q
+
 -- A part with a limit of its own: only what it weighs above the limit counts outside.
 pub data TakesFresh {T A : Type 0} (limit : ℕ) (p : Rule T A) : List T → ℕ → A → Type 0 where
   above : {us : List T} {w : ℕ} {a : A} → p.takes us w a → TakesFresh limit p us (w - limit) a

@@ -25,7 +25,7 @@ after-ge n (d ∷ ds) = omega (arith, after-ge (n * 10 + digit_value d) ds)
 pub digits_value-take-le : (i : ℕ) (ds : List ℕ) → digits_value 10 (take i ds) ≤ digits_value 10 ds
 digits_value-take-le i ds =
     let all : digits_value 10 ds ≡ digits_value_after 10 (digits_value 10 (take i ds)) (drop i ds)
-      = ap (digits_value 10) (sym (take-append-drop i ds)) ∙ after-append 0 (take i ds) (drop i ds) in
+    = ap (digits_value 10) (sym (take-append-drop i ds)) ∙ after-append 0 (take i ds) (drop i ds) in
     omega (arith, all, after-ge (digits_value 10 (take i ds)) (drop i ds))
 
 -- one digit more

@@ -3,5 +3,11 @@ pub mod Classes
 pub mod Digits
 pub mod Marks
 pub mod Sorts
-pub mod Walk
 pub mod Longest
+pub mod Sound
+pub mod Unique
+pub mod Walk
+pub mod Loop
+pub mod Given
+pub mod Spans
+pub mod Pieces

@@ -39,14 +39,14 @@ lookup_spelled : (table : List (ℕ × MarkKind)) → AllByRecursion SpelledByOn
 lookup_spelled [] all b kind found = absurd (cc)
 lookup_spelled (e ∷ table) all b kind found =
     let by : (t : Bool) → eqb b e.0 ≡ t → cond t (Some e.1) (lookup table b) ≡ Some kind → mark_spelling kind ≡ b ∷ []
-      = λ t. elim t as (λ t. eqb b e.0 ≡ t → cond t (Some e.1) (lookup table b) ≡ Some kind → mark_spelling kind ≡ b ∷ []) [
-        true ↦ λ is same.
-            let kind_is : e.1 ≡ kind = cc in
-            let byte_is = eqb-true b e.0 is in
-            let spelled = all.0 in
-            ap mark_spelling (sym kind_is) ∙ spelled ∙ ap (λ x. x ∷ []) (sym byte_is)
+    = λ t. elim t as (λ t. eqb b e.0 ≡ t → cond t (Some e.1) (lookup table b) ≡ Some kind → mark_spelling kind ≡ b ∷ []) [
+      | true ↦ λ is same.
+          let kind_is : e.1 ≡ kind = cc in
+          let byte_is = eqb-true b e.0 is in
+          let spelled = all.0 in
+          ap mark_spelling (sym kind_is) ∙ spelled ∙ ap (λ x. x ∷ []) (sym byte_is)
       | false ↦ λ _ same. lookup_spelled table all.1 b kind same
-      ] in
+    ] in
     by (eqb b e.0) refl found
 
 lookup_two_spelled : (table : List (ℕ × ℕ × MarkKind)) → AllByRecursion SpelledByTwo table → (b c : ℕ) (kind : MarkKind) → lookup_two table b c ≡ Some kind → mark_spelling kind ≡ b ∷ c ∷ []
@@ -55,20 +55,20 @@ lookup_two_spelled (e ∷ table) all b c kind found =
     let Goal : Type 0 = mark_spelling kind ≡ b ∷ c ∷ [] in
     let rest : lookup_two table b c ≡ Some kind → Goal = lookup_two_spelled table all.1 b c kind in
     let second : eqb b e.0 ≡ true → (t : Bool) → eqb c e.1 ≡ t → cond t (Some e.2) (lookup_two table b c) ≡ Some kind → Goal
-      = λ first t. elim t as (λ t. eqb c e.1 ≡ t → cond t (Some e.2) (lookup_two table b c) ≡ Some kind → Goal) [
-        true ↦ λ is same.
-            let kind_is : e.2 ≡ kind = cc in
-            let first_is = eqb-true b e.0 first in
-            let second_is = eqb-true c e.1 is in
-            let spelled = all.0 in
-            ap mark_spelling (sym kind_is) ∙ spelled ∙ ap (λ x. x ∷ e.1 ∷ []) (sym first_is) ∙ ap (λ x. b ∷ x ∷ []) (sym second_is)
+    = λ first t. elim t as (λ t. eqb c e.1 ≡ t → cond t (Some e.2) (lookup_two table b c) ≡ Some kind → Goal) [
+      | true ↦ λ is same.
+          let kind_is : e.2 ≡ kind = cc in
+          let first_is = eqb-true b e.0 first in
+          let second_is = eqb-true c e.1 is in
+          let spelled = all.0 in
+          ap mark_spelling (sym kind_is) ∙ spelled ∙ ap (λ x. x ∷ e.1 ∷ []) (sym first_is) ∙ ap (λ x. b ∷ x ∷ []) (sym second_is)
       | false ↦ λ _ same. rest same
-      ] in
+    ] in
     let by : (t : Bool) → eqb b e.0 ≡ t → cond t (cond (eqb c e.1) (Some e.2) (lookup_two table b c)) (lookup_two table b c) ≡ Some kind → Goal
-      = λ t. elim t as (λ t. eqb b e.0 ≡ t → cond t (cond (eqb c e.1) (Some e.2) (lookup_two table b c)) (lookup_two table b c) ≡ Some kind → Goal) [
-        true ↦ λ first same. second first (eqb c e.1) refl same
+    = λ t. elim t as (λ t. eqb b e.0 ≡ t → cond t (cond (eqb c e.1) (Some e.2) (lookup_two table b c)) (lookup_two table b c) ≡ Some kind → Goal) [
+      | true ↦ λ first same. second first (eqb c e.1) refl same
       | false ↦ λ _ same. rest same
-      ] in
+    ] in
     by (eqb b e.0) refl found
 
 pub single_spelled : (b : ℕ) (kind : MarkKind) → lookup single_marks b ≡ Some kind → mark_spelling kind ≡ b ∷ []

@@ -1,6 +1,6 @@
 -- The longest front of bytes that pass a test.
 use Rattle.std.proofs.Common.{◌≡◌, ℕ, suc, ◌+◌, ◌<◌, ◌≤◌, Bool, true, false, cond, List, [], ◌∷◌, ◌++◌, take, drop, length, refl, sym, ap, ◌∙◌, subst, arith}
-use Rattle.std.proofs.lemmas.Bool.{false≢true}
+use Rattle.std.proofs.lemmas.Bool.{false≢true, cond-true, cond-false}
 use Rattle.std.proofs.Math.Numerals.{one-add}
 use Rattle.std.specs.List.{prefix_len}
 use Rattle.az_text.specs.Tokens.{AllAre}
@@ -14,10 +14,10 @@ Stops p (b ∷ rest) = p b ≡ false
 at_run : (p : ℕ → Bool) (b : ℕ) (text : List ℕ) (P : ℕ → Type 0) → (p b ≡ true → P (suc (prefix_len p text))) → (p b ≡ false → P 0) → P (prefix_len p (b ∷ text))
 at_run p b text P more none =
     let by : (t : Bool) → p b ≡ t → P (cond t (1 + prefix_len p text) 0)
-      = λ t. elim t as (λ t. p b ≡ t → P (cond t (1 + prefix_len p text) 0)) [
-        true ↦ λ e. subst P (sym (one-add (prefix_len p text))) (more e)
+    = λ t. elim t as (λ t. p b ≡ t → P (cond t (1 + prefix_len p text) 0)) [
+      | true ↦ λ e. subst P (sym (one-add (prefix_len p text))) (more e)
       | false ↦ λ e. none e
-      ] in
+    ] in
     by (p b) refl
 
 pub run_passes : (p : ℕ → Bool) (text : List ℕ) → AllAre p (take (prefix_len p text) text)
@@ -56,3 +56,10 @@ run_only p (b ∷ bytes) rest (x ∷ more) after pb sb pm sm same =
     let tail : more ++ after ≡ bytes ++ rest = cc in
     let front = run_only p bytes rest more after pb.1 sb pm.1 sm tail in
     cc
+
+-- the run of passing bytes, followed by one that doesn't pass
+pub run_len : (p : ℕ → Bool) (bytes rest : List ℕ) → AllAre p bytes → Stops p rest → prefix_len p (bytes ++ rest) ≡ length bytes
+run_len p [] [] passes stops = refl
+run_len p [] (b ∷ rest) passes stops = cond-false (p b) _ _ stops
+run_len p (b ∷ bytes) rest passes stops =
+    cond-true (p b) _ _ passes.0 ∙ one-add (prefix_len p (bytes ++ rest)) ∙ ap suc (run_len p bytes rest passes.1 stops)

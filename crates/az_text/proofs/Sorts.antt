@@ -63,6 +63,6 @@ same_sort kind other bytes rest more after spelled other_spelled same =
     let s = starts kind bytes spelled in
     let o = starts other more other_spelled in
     let same' : o.first ∷ (o.others ++ after) ≡ s.first ∷ (s.others ++ rest)
-      = ap (λ l. l ++ after) (sym o.whole) ∙ same ∙ ap (λ l. l ++ rest) s.whole in
+    = ap (λ l. l ++ after) (sym o.whole) ∙ same ∙ ap (λ l. l ++ rest) s.whole in
     let first : o.first ≡ s.first = cc in
     sym o.sorted ∙ ap sort_of first ∙ s.sorted

@@ -1,6 +1,6 @@
 -- What a text begins with, computed from its first bytes, and so the answer of a whole text.
 -- The laws in `proofs/` say that these are the tokens of `Tokens.antt` and the readings of `Reading.antt`.
-use Rattle.std.specs.Prelude.{ℕ, zero, suc, ◌+◌, ◌-◌, ◌^◌, Bool, if◌then◌else◌, ◌==◌, nat_lt, List, [], ◌∷◌, take, slice_index, Option, Some, None, Result, Ok, Err}
+use Rattle.std.specs.Prelude.{◌≡◌, ℕ, zero, suc, ◌+◌, ◌-◌, ◌^◌, Bool, if◌then◌else◌, ◌==◌, nat_lt, List, [], ◌∷◌, take, slice_index, Option, Some, None, Result, Ok, Err}
 use Rattle.std.specs.Char.{is_ascii_alphabetic, is_ascii_digit}
 use Rattle.std.specs.List.{prefix_len}
 use Rattle.std.specs.Str.Parse.{digits_value}
@@ -14,7 +14,7 @@ use Rattle.az_text.specs.declared.token.Token.{Token}
 use Rattle.az_text.specs.declared.token.TokenKind.{TokenKind}
 use Rattle.az_text.specs.declared.token.TokenKind.TheVariants.{Word, Number, Quoted, Mark}
 use Rattle.az_text.specs.Tokens.{is_blank, is_word_byte, is_inner, is_before_line_feed}
-use Rattle.az_text.specs.Reading.{and_then, token_at}
+use Rattle.az_text.specs.Reading.{and_then, token_at, Reads}
 
 -- the marks of one byte and of two
 abbrev pub single_marks : List (ℕ × MarkKind)
@@ -94,3 +94,7 @@ lexed_from at (suc skip) (b ∷ rest) = lexed_from (suc at) skip rest
 
 unfoldable pub lexed : List ℕ → Result (List Token) LexFault
 lexed text = lexed_from 0 0 text
+
+-- Each text has one answer by the grammar, and this is it.
+abbrev pub LexedIsTheReading : Type 0
+LexedIsTheReading = (text : List ℕ) → Reads 0 text (lexed text) × ((answer : Result (List Token) LexFault) → Reads 0 text answer → answer ≡ lexed text)

@@ -1,11 +1,11 @@
 -- The tokens of a text with their spans, or its first fault.
-use Rattle.std.specs.Prelude.{◌≡◌, ℕ, suc, ◌+◌, ◌^◌, ◌<◌, ◌≤◌, List, [], ◌∷◌, ◌++◌, length, Result, Ok, Err, IsTrue}
+use Rattle.std.specs.Prelude.{◌≡◌, ℕ, suc, ◌+◌, ◌^◌, ◌<◌, ◌≤◌, List, [], ◌∷◌, ◌++◌, length, Result, Ok, Err, IsTrue, slice_range}
 use Rattle.az_text.specs.declared.fault.LexFault.{LexFault}
 use Rattle.az_text.specs.declared.fault.LexFault.TheVariants.{BadByte, WideNumber, Memory}
 use Rattle.az_text.specs.declared.token.Token.{Token}
 use Rattle.az_text.specs.declared.token.TokenKind.{TokenKind}
 use Rattle.az_text.specs.declared.token.TokenKind.TheVariants.{Word, Number, Quoted, Mark}
-use Rattle.az_text.specs.Tokens.{is_blank, is_before_line_feed, AllAre, EndsComment, BeginsWith, NothingBegins}
+use Rattle.az_text.specs.Tokens.{is_blank, is_before_line_feed, AllAre, EndsComment, Spells, BeginsWith, NothingBegins}
 
 abbrev pub IsNarrow : TokenKind → Type 0
 IsNarrow (Word name) = Unit {0}
@@ -18,8 +18,8 @@ token_at at kind len = record { kind = kind; from = at; to = at + len }
 
 -- the token before those of the rest; a fault of the rest stays
 abbrev pub and_then : Token → Result (List Token) LexFault → Result (List Token) LexFault
-and_then token (Ok tokens) = Ok (token ∷ tokens)
-and_then token (Err fault) = Err fault
+and_then first (Ok others) = Ok (first ∷ others)
+and_then first (Err fault) = Err fault
 
 -- `Reads at text answer`: what is left of a text from the place `at` on is `text`, and has this answer.
 pub data Reads : ℕ → List ℕ → Result (List Token) LexFault → Type 0 where
@@ -43,3 +43,9 @@ IsReadOf text (Ok tokens) = Reads 0 text (Ok tokens)
 IsReadOf text (Err (BadByte place)) = Reads 0 text (Err (BadByte place))
 IsReadOf text (Err (WideNumber place)) = Reads 0 text (Err (WideNumber place))
 IsReadOf text (Err Memory) = Unit {0}
+
+-- the tokens stand in the text in order, from the place `at` on, each where its bytes spell it
+abbrev pub AreIn : List ℕ → ℕ → List Token → Type 0
+AreIn text at [] = at ≤ length text
+AreIn text at (first ∷ others) =
+    (at ≤ first.from) × (first.from < first.to) × Spells first.kind (slice_range text first.from first.to) × IsNarrow first.kind × AreIn text first.to others

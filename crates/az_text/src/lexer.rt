@@ -1,9 +1,9 @@
 //! The lexer: one pass over the text.
 
-ghost use Rattle.std.specs.Prelude.{◌≡◌, Result};
+ghost use Rattle.std.specs.Prelude.{Result, IfOk};
 ghost use Rattle.az_text.specs.declared.fault.LexFault.{LexFault};
 ghost use Rattle.az_text.specs.declared.token.Token.{Token};
-ghost use Rattle.az_text.specs.Reading.{Reads, Answers, IsReadOf};
+ghost use Rattle.az_text.specs.Reading.{Reads, Answers, IsReadOf, AreIn};
 ghost use Rattle.az_text.specs.Fronts.{lexed};
 
 use crate::front::{Front, front_of};
@@ -39,7 +39,9 @@ pub fn lex(alloc: Global, text: &[u8]) -> Result<List<Token>, LexFault>
     ensures found { IsReadOf text.now result }
     // No other is.
     ensures only { (answer : Result (List Token) LexFault) → Reads 0 text.now answer → Answers result answer }
-    // It is a function of the text.
+    // The tokens stand in the text in order, each where its bytes spell it.
+    ensures spans { IfOk result (λ tokens. AreIn text.now 0 tokens) }
+    // The answer is a function of the text.
     ensures exact { Answers result (lexed text.now) }
 {
     tokens_of(alloc, text)

@@ -6,11 +6,15 @@
 
 mod fault;
 mod front;
+mod laws;
 mod lexer;
 mod mark;
+#[cfg(test)]
+mod tests;
 mod token;
 
 pub use fault::LexFault;
+pub use laws::{lexed_is_the_reading, pieces_are_read, spelled_token_is_cut};
 pub use lexer::lex;
 pub use mark::MarkKind;
 pub use token::{Token, TokenKind};

@@ -12,12 +12,12 @@ use Rattle.grammar_rules.proofs.Token.{nothing_exact}
 
 says_left : {T A : Type 0} (p q : Rule T A) (b : ℕ) (ts : List T) (answer : Answer T A) → Says p b ts answer → Says (choice p q) b ts answer
 says_left p q b ts (got a rest remaining) says = (says.0, says.1, says.2, says.3, inl says.4)
-says_left p q b ts (wrong rest) says = (says.0, says.1, says.2, says.3, inl says.4)
+says_left p q b ts (wrong remaining) says = (says.0, says.1, says.2, says.3, says.4, inl says.5, says.6)
 says_left p q b ts large says = (says.0, says.1, says.2, says.3, says.4, inl says.5)
 
 says_right : {T A : Type 0} (p q : Rule T A) (b : ℕ) (ts : List T) (answer : Answer T A) → Says q b ts answer → Says (choice p q) b ts answer
 says_right p q b ts (got a rest remaining) says = (says.0, says.1, says.2, says.3, inr says.4)
-says_right p q b ts (wrong rest) says = (says.0, says.1, says.2, says.3, inr says.4)
+says_right p q b ts (wrong remaining) says = (says.0, says.1, says.2, says.3, says.4, inr says.5, says.6)
 says_right p q b ts large says = (says.0, says.1, says.2, says.3, says.4, inr says.5)
 
 choice_says : {T A : Type 0} (class : T → ℕ) (set : List ℕ) (p q : Rule T A) (first second : Reader T A) (b : ℕ) (ts : List T)

@@ -9,7 +9,7 @@ use Rattle.grammar_rules.specs.Exactness.{Shape, HasShape, Exact, Says, LeavesAt
 
 fresh_says : {T A : Type 0} (limit : ℕ) (rule : Rule T A) (b : ℕ) (ts : List T) (answer : Answer T A) → Says rule (b + limit) ts answer → Says (fresh limit rule) b ts (capped b answer)
 fresh_says limit rule b ts (got a rest remaining) says = (says.0, says.1 - limit, says.2, (let paid = says.3 in omega arith), above says.4)
-fresh_says limit rule b ts (wrong rest) says = (says.0, says.1 - limit, says.2, (let fits = says.3 in omega arith), above_front says.4)
+fresh_says limit rule b ts (wrong remaining) says = (says.0, says.1, says.2 - limit, says.3, (let fits = says.4 in omega arith), above_front says.5, says.6)
 fresh_says limit rule b ts large says = (says.0, says.1, says.2 - limit, says.3, (let over = says.4 in omega arith), above_front says.5)
 
 capped_leaves : {T A : Type 0} (b : ℕ) (rest : List T) (answer : Answer T A) → LeavesAtMost rest answer → LeavesAtMost rest (capped b answer)

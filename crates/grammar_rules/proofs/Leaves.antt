@@ -13,7 +13,7 @@ shorter us rest ts split = rw split (let sum = length-append us rest in omega ar
 -- An answer leaves no more than the tokens that the reader was given.
 pub leaves_all : {T A : Type 0} (rule : Rule T A) (b : ℕ) (ts : List T) (answer : Answer T A) → Says rule b ts answer → LeavesAtMost ts answer
 leaves_all rule b ts (got a rest remaining) says = shorter says.0 rest ts says.2
-leaves_all rule b ts (wrong rest) says = shorter says.0 rest ts says.2
+leaves_all rule b ts (wrong remaining) says = let part = shorter says.0 says.1 ts says.3 in let is = says.6 in omega arith
 leaves_all rule b ts large says = tt
 
 -- What a later part leaves is less still.

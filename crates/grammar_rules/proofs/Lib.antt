@@ -7,3 +7,4 @@ pub mod Choice
 pub mod Many
 pub mod Fresh
 pub mod Recursive
+pub mod Whole

@@ -65,7 +65,7 @@ says_more : {T A B : Type 0} (step : A → B → A) (a : A) (rule : Rule T B) (b
 says_more step a rule b ts us rest v remaining x split paid t (got c later left_over) says =
     (us ++ says.0, v + says.1, rejoin us says.0 rest later ts split says.2, (let next = says.3 in omega arith), one_more_mapped step a rule us says.0 v says.1 x c t says.4)
 says_more step a rule b ts us rest v remaining x split paid t (wrong later) says =
-    (us ++ says.0, v + says.1, rejoin us says.0 rest later ts split says.2, (let next = says.3 in omega arith), after_one t says.4)
+    (us ++ says.0, says.1, v + says.2, rejoin us says.0 rest says.1 ts split says.3, (let next = says.4 in omega arith), after_one t says.5, says.6)
 says_more step a rule b ts us rest v remaining x split paid t large says =
     (us ++ says.0, says.1, v + says.2, rejoin us says.0 rest says.1 ts split says.3, (let next = says.4 in omega arith), after_one t says.5)
 
@@ -73,7 +73,7 @@ says_turn : {T A B : Type 0} (step : A → B → A) (a : A) (rule : Rule T B) (g
     → ((x : B) (budget : ℕ) (rest : List T) → Says (mapped_to (grouped step (step a x)) (many rule)) budget rest (go_on x budget rest))
     → (answer : Answer T B) → Says rule b ts answer → Says (mapped_to (grouped step a) (many rule)) b ts (after answer go_on)
 says_turn step a rule go_on b ts each (got x rest remaining) says = says_more step a rule b ts says.0 rest says.1 remaining x says.2 says.3 says.4 (go_on x remaining rest) (each x remaining rest)
-says_turn step a rule go_on b ts each (wrong rest) says = (says.0, says.1, says.2, says.3, of_next says.4)
+says_turn step a rule go_on b ts each (wrong remaining) says = (says.0, says.1, says.2, says.3, says.4, of_next says.5, says.6)
 says_turn step a rule go_on b ts each large says = (says.0, says.1, says.2, says.3, says.4, of_next says.5)
 
 turns_say : {T A B : Type 0} (class : T → ℕ) (set : List ℕ) (step : A → B → A) (rule : Rule T B) (reader : Reader T B)

@@ -24,7 +24,7 @@ Deepens class shape body read_body = (depth : ℕ) (sure rule : Rule _ _) (reade
 
 at_ground : {T A : Type 0} (class : T → ℕ) (shape : Shape) (read_body : Reader T A → Reader T A) (rule : Rule T A) → HasShape class shape rule → Exact class shape 0 unentered rule (read_level read_body 0)
 at_ground class shape read_body rule shaped = record {
-  says = λ b ts. ([], 0, refl, zero-le, only_empty);
+  says = λ b ts. ([], ts, 0, refl, zero-le, only_empty, refl);
   gets = λ b us rest w a in_depth takes unseen. absurd (omega arith);
   reaches = λ b us rest w in_depth front fits. absurd (omega arith);
   exceeds = λ b us rest w in_depth front over. absurd (omega arith);
@@ -63,7 +63,7 @@ level_exact class shape body read_body deepens (suc n) (suc m) =
 
 level_says : {T A : Type 0} (body : Rule T A → Rule T A) (n b : ℕ) (ts : List T) (answer : Answer T A) → Says (level body n) b ts answer → Says (recursive body) b ts answer
 level_says body n b ts (got a rest remaining) says = (says.0, says.1, says.2, says.3, (n, says.4))
-level_says body n b ts (wrong rest) says = (says.0, says.1, says.2, says.3, (n, says.4))
+level_says body n b ts (wrong remaining) says = (says.0, says.1, says.2, says.3, says.4, (n, says.5), says.6)
 level_says body n b ts large says = (says.0, says.1, says.2, says.3, says.4, (n, says.5))
 
 recursive_shaped : {T A : Type 0} (class : T → ℕ) (shape : Shape) (body : Rule T A → Rule T A) → ((m : ℕ) → HasShape class shape (level body m)) → HasShape class shape (recursive body)

@@ -81,7 +81,7 @@ says_second : {T A B C : Type 0} (f : A → B → C) (p : Rule T A) (q : Rule T 
 says_second f p q b ts us rest v remaining a split paid takes (got c later left_over) says =
     (us ++ says.0, v + says.1, rejoin us says.0 rest later ts split says.2, (let next = says.3 in omega arith), both_mapped f p q us says.0 v says.1 a c takes says.4)
 says_second f p q b ts us rest v remaining a split paid takes (wrong later) says =
-    (us ++ says.0, v + says.1, rejoin us says.0 rest later ts split says.2, (let next = says.3 in omega arith), of_rest takes says.4)
+    (us ++ says.0, says.1, v + says.2, rejoin us says.0 rest says.1 ts split says.3, (let next = says.4 in omega arith), of_rest takes says.5, says.6)
 says_second f p q b ts us rest v remaining a split paid takes large says =
     (us ++ says.0, says.1, v + says.2, rejoin us says.0 rest says.1 ts split says.3, (let next = says.4 in omega arith), of_rest takes says.5)
 
@@ -89,7 +89,7 @@ says_both : {T A B C : Type 0} (f : A → B → C) (p : Rule T A) (q : Rule T B)
     → ((a : A) (budget : ℕ) (rest : List T) → Says (mapped_to (f a) q) budget rest (second a budget rest))
     → (answer : Answer T A) → Says p b ts answer → Says (sequence f p q) b ts (after answer second)
 says_both f p q second b ts each (got a rest remaining) says = says_second f p q b ts says.0 rest says.1 remaining a says.2 says.3 says.4 (second a remaining rest) (each a remaining rest)
-says_both f p q second b ts each (wrong rest) says = (says.0, says.1, says.2, says.3, of_first says.4)
+says_both f p q second b ts each (wrong remaining) says = (says.0, says.1, says.2, says.3, says.4, of_first says.5, says.6)
 says_both f p q second b ts each large says = (says.0, says.1, says.2, says.3, says.4, of_first says.5)
 
 -- what the second part leaves is less than what the first one leaves

@@ -31,11 +31,11 @@ spend_says class w set b t ts fits =
     ] refl
 
 token_says : {T : Type 0} (class : T → ℕ) (w : ℕ) (set : List ℕ) (b : ℕ) (ts : List T) → Says (token class w set) b ts (read_token class w set b ts)
-token_says class w set b [] = ([], 0, refl, omega arith, before)
+token_says class w set b [] = ([], [], 0, refl, omega arith, before, refl)
 token_says class w set b (t ∷ ts) =
-    elim (has set (class t)) as (λ x. has set (class t) ≡ x → Says (token class w set) b (t ∷ ts) (if x then spend w t b ts else wrong (t ∷ ts))) [
+    elim (has set (class t)) as (λ x. has set (class t) ≡ x → Says (token class w set) b (t ∷ ts) (if x then spend w t b ts else wrong (length (t ∷ ts)))) [
       true ↦ λ e. spend_says class w set b t ts e
-    | false ↦ λ e. ([], 0, refl, omega arith, before)
+    | false ↦ λ e. ([], t ∷ ts, 0, refl, omega arith, before, refl)
     ] refl
 
 token_gets : {T : Type 0} (class : T → ℕ) (weight : ℕ) (set : List ℕ) (b : ℕ) (us rest : List T) (w : ℕ) (t : T) → TakesToken class weight set us w t → read_token class weight set (w + b) (us ++ rest) ≡ got t rest b

@@ -29,13 +29,13 @@ pub record HasShape {T A : Type 0} (class : T → ℕ) (shape : Shape) (rule : R
 -- What an answer says of the tokens that were read.
 abbrev pub Says : {T A : Type 0} → Rule T A → ℕ → List T → Answer T A → Type 0
 Says rule budget ts (got a rest remaining) = (us : List _) × (w : ℕ) × (ts ≡ us ++ rest) × (budget ≡ w + remaining) × rule.takes us w a
-Says rule budget ts (wrong rest) = (us : List _) × (w : ℕ) × (ts ≡ us ++ rest) × (w ≤ budget) × rule.front us w
+Says rule budget ts (wrong remaining) = (us : List _) × (rest : List _) × (w : ℕ) × (ts ≡ us ++ rest) × (w ≤ budget) × rule.front us w × (remaining ≡ length rest)
 Says rule budget ts large = (us : List _) × (vs : List _) × (w : ℕ) × (ts ≡ us ++ vs) × (budget < w) × rule.front us w
 
 -- The answer leaves no more than these tokens.
 abbrev pub LeavesAtMost : {T A : Type 0} → List T → Answer T A → Type 0
 LeavesAtMost rest (got a remaining budget) = length remaining ≤ length rest
-LeavesAtMost rest (wrong remaining) = length remaining ≤ length rest
+LeavesAtMost rest (wrong remaining) = remaining ≤ length rest
 LeavesAtMost rest large = Unit {0}
 
 -- A reader that follows a rule exactly, for budgets below `depth`. What it answers is so by the rule

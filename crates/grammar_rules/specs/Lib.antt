@@ -1,3 +1,4 @@
 pub mod Rules
 pub mod Readers
 pub mod Exactness
+pub mod Whole

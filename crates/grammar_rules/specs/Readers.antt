@@ -3,11 +3,11 @@
 use Rattle.std.specs.Prelude.{ℕ, zero, suc, ◌+◌, ◌-◌, min, Bool, true, false, if◌then◌else◌, nat_le, List, [], ◌∷◌, length, Option, Some, None}
 use Rattle.grammar_rules.specs.Rules.{has, single, put_last}
 
--- what a reader answers: a value, with the tokens and the budget that are left; that the first of these
--- tokens can't go on, or that more would have to follow; or that the budget is exceeded
+-- what a reader answers: a value, with the tokens and the budget that are left; that the reading can't
+-- go on, where so many tokens are left; or that the budget is exceeded
 pub data Answer (T A : Type 0) : Type 0 where
   got : A → List T → ℕ → Answer T A
-  wrong : List T → Answer T A
+  wrong : ℕ → Answer T A
   large : Answer T A
 
 abbrev pub Reader : Type 0 → Type 0 → Type 0
@@ -16,7 +16,7 @@ Reader T A = ℕ → List T → Answer T A
 -- go on from an answer
 abbrev pub after : {T A B : Type 0} → Answer T A → (A → Reader T B) → Answer T B
 after (got a rest budget) go_on = go_on a budget rest
-after (wrong rest) go_on = wrong rest
+after (wrong remaining) go_on = wrong remaining
 after large go_on = large
 
 -- the look-ahead: the next token is in the set
@@ -28,8 +28,8 @@ abbrev pub spend : {T A : Type 0} → ℕ → A → Reader T A
 spend weight a budget rest = if nat_le weight budget then got a rest (budget - weight) else large
 
 abbrev pub read_token : {T : Type 0} → (T → ℕ) → ℕ → List ℕ → Reader T T
-read_token class weight set budget [] = wrong []
-read_token class weight set budget (t ∷ ts) = if has set (class t) then spend weight t budget ts else wrong (t ∷ ts)
+read_token class weight set budget [] = wrong 0
+read_token class weight set budget (t ∷ ts) = if has set (class t) then spend weight t budget ts else wrong (length (t ∷ ts))
 
 abbrev pub read_nothing : {T A : Type 0} → A → Reader T A
 read_nothing a budget ts = got a ts budget
@@ -70,12 +70,12 @@ read_list_of class set p q = read_left class set put_last (read_mapped single p)
 
 abbrev pub capped : {T A : Type 0} → ℕ → Answer T A → Answer T A
 capped budget (got a rest remaining) = got a rest (min budget remaining)
-capped budget (wrong rest) = wrong rest
+capped budget (wrong remaining) = wrong remaining
 capped budget large = large
 
 abbrev pub read_fresh : {T A : Type 0} → ℕ → Reader T A → Reader T A
 read_fresh limit p budget ts = capped budget (p (budget + limit) ts)
 
 abbrev pub read_level : {T A : Type 0} → (Reader T A → Reader T A) → ℕ → Reader T A
-read_level body zero budget ts = wrong ts
+read_level body zero budget ts = wrong (length ts)
 read_level body (suc n) budget ts = body (read_level body n) budget ts

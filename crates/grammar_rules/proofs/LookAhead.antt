@@ -1,8 +1,7 @@
 -- Sets of classes, and the next token after a list that begins in a set.
 use Rattle.std.proofs.Common.{◌≡◌, ℕ, Bool, true, false, not, ◌||◌, ◌&&◌, if◌then◌else◌, ◌==◌, List, [], ◌∷◌, ◌++◌, arith, refl, sym, ◌∙◌, subst, ap}
 use Rattle.std.proofs.lemmas.Bool.{eqb-true}
-use Rattle.grammar_rules.specs.Rules.{has}
-use Rattle.grammar_rules.specs.Readers.{sees}
+use Rattle.grammar_rules.specs.Readers.{has, sees}
 use Rattle.grammar_rules.specs.Exactness.{BeginsIn, is_subset, is_disjoint}
 
 pub or_left : (a b : Bool) → (a || b) ≡ false → a ≡ false

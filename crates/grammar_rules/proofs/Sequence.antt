@@ -1,15 +1,15 @@
 -- The law of a sequence. The second reader may use the first one's value, as long as what it answers is
 -- the value that the rule puts together.
-use Rattle.std.proofs.Common.{◌≡◌, ℕ, ◌+◌, ◌-◌, ◌<◌, ◌≤◌, Bool, true, false, ◌&&◌, if◌then◌else◌, List, [], ◌∷◌, ◌++◌, ◌⊎◌, inl, inr, length, arith, refl, sym, ◌∙◌, ap, subst, append_assoc, append-nil, add_assoc, add-zero}
+use Rattle.std.proofs.Common.{◌≡◌, ℕ, ◌+◌, ◌-◌, ◌<◌, ◌≤◌, Bool, true, false, ◌&&◌, if◌then◌else◌, List, [], ◌∷◌, ◌++◌, ◌⊎◌, inl, inr, length, arith, refl, sym, ◌∙◌, ap, subst, append_assoc, append-nil, add_assoc, add-zero, Option, Some}
 use Rattle.std.proofs.lemmas.Bool.Decides.{nat_tests}
-use Rattle.grammar_rules.specs.Rules.{Rule, has, token, sequence, TakesToken, mapped_to, TakesSequence, FrontOfSequence, TakesMapped}
+use Rattle.grammar_rules.specs.Rules.{Rule, token, sequence, TakesToken, mapped_to, TakesSequence, FrontOfSequence, TakesMapped}
 use Rattle.grammar_rules.specs.Rules.TakesToken.{this}
 use Rattle.grammar_rules.specs.Rules.TakesSequence.{both}
 use Rattle.grammar_rules.specs.Rules.FrontOfSequence.{of_first, of_rest}
 use Rattle.grammar_rules.specs.Rules.TakesMapped.{mapped}
 use Rattle.grammar_rules.specs.Readers.{Answer, Reader, after, sees, read_then, read_token, read_sequence, read_mapped}
 use Rattle.grammar_rules.specs.Readers.Answer.{got, wrong, large}
-use Rattle.grammar_rules.specs.Exactness.{Shape, HasShape, Exact, Says, LeavesAtMost, BeginsIn, IsLight, is_disjoint, token_shape, sequence_shape}
+use Rattle.grammar_rules.specs.Exactness.{Shape, HasShape, Exact, Says, LeavesAtMost, BeginsIn, IsLight, is_disjoint, IsWithin, token_shape, sequence_shape}
 use Rattle.grammar_rules.proofs.LookAhead.{append-has_left, append-has_right, has_disjoint, disjoint_none, not_seen, not_seen_after}
 use Rattle.grammar_rules.proofs.Leaves.{leaves_all, leaves_less, leaves_as, or_at_most}
 use Rattle.grammar_rules.proofs.Mapped.{mapped_exact}
@@ -211,17 +211,17 @@ pub sequence_exact : {T A B C : Type 0} {class : T → ℕ} {one two : Shape} {d
 sequence_exact f exact exact' apart = sequence_exact_then f exact (λ a. mapped_exact (f a) exact') apart
 
 -- A token and what stands behind it, which may be read deeper by the token's weight.
-token_weighs : {T : Type 0} (class : T → ℕ) (weight : ℕ) (set : List ℕ) (us : List T) (w : ℕ) (t : T) → TakesToken class weight set us w t → weight ≤ w
-token_weighs class weight set us w t (this u is) = omega arith
+token_weighs : {T A : Type 0} (value : T → Option A) (weight : ℕ) (us : List T) (w : ℕ) (a : A) → TakesToken value weight us w a → weight ≤ w
+token_weighs value weight us w a (this u x is) = omega arith
 
-pub guarded_exact : {T B C : Type 0} {class : T → ℕ} {two : Shape} {depth : ℕ} {sure' q : Rule T B} {second : Reader T B} (weight : ℕ) (set : List ℕ) (f : T → B → C)
+pub guarded_exact : {T A B C : Type 0} {class : T → ℕ} {two : Shape} {depth : ℕ} {sure' q : Rule T B} {second : Reader T B} (set : List ℕ) (value : T → Option A) (weight : ℕ) → IsWithin class set value → (f : A → B → C)
     → Exact class two depth sure' q second
-    → Exact class (sequence_shape (token_shape set) two) (weight + depth) (sequence f (token class weight set) sure') (sequence f (token class weight set) q) (read_sequence f (read_token class weight set) second)
-guarded_exact {class = class} {two = two} {depth = depth} {sure' = sure'} {q = q} {second = second} weight set f exact' =
-    sequence_exact_of class (token_shape set) two f weight depth (token class weight set) (token class weight set) sure' q (read_token class weight set) (λ a. read_mapped (f a) second)
+    → Exact class (sequence_shape (token_shape set) two) (weight + depth) (sequence f (token value weight) sure') (sequence f (token value weight) q) (read_sequence f (read_token value weight) second)
+guarded_exact {class = class} {two = two} {depth = depth} {sure' = sure'} {q = q} {second = second} set value weight within f exact' =
+    sequence_exact_of class (token_shape set) two f weight depth (token value weight) (token value weight) sure' q (read_token value weight) (λ a. read_mapped (f a) second)
     (record {
-      exact = token_exact class weight set (weight + depth);
-      guarded = token_weighs class weight set;
+      exact = token_exact class set value weight within (weight + depth);
+      guarded = token_weighs value weight;
       exact' = λ a. mapped_exact (f a) exact';
       apart = disjoint_none two.first;
     })

@@ -1,16 +1,16 @@
 -- The laws of a token and of nothing.
-use Rattle.std.proofs.Common.{◌≡◌, ℕ, zero, ◌+◌, ◌-◌, ◌<◌, ◌≤◌, Bool, true, false, if◌then◌else◌, nat_le, List, [], ◌∷◌, ◌++◌, length, arith, refl, sym, ◌∙◌, subst, ap, leb→le}
+use Rattle.std.proofs.Common.{◌≡◌, ℕ, zero, ◌+◌, ◌-◌, ◌<◌, ◌≤◌, Bool, true, false, if◌then◌else◌, nat_le, List, [], ◌∷◌, ◌++◌, length, arith, refl, sym, ◌∙◌, subst, ap, Option, Some, None}
 use Rattle.std.proofs.lemmas.Bool.{leb-true, le-leb}
 use Rattle.std.proofs.lemmas.Bool.Decides.{nat_tests}
-use Rattle.grammar_rules.specs.Rules.{Rule, has, token, give, TakesToken, FrontOfToken, TakesNothing, FrontOfNothing}
+use Rattle.grammar_rules.specs.Rules.{Rule, token, give, TakesToken, FrontOfToken, TakesNothing, FrontOfNothing}
 use Rattle.grammar_rules.specs.Rules.TakesToken.{this}
 use Rattle.grammar_rules.specs.Rules.FrontOfToken.{before, behind}
 use Rattle.grammar_rules.specs.Rules.TakesNothing.{nothing}
 use Rattle.grammar_rules.specs.Rules.FrontOfNothing.{only_empty}
-use Rattle.grammar_rules.specs.Readers.{Answer, Reader, sees, spend, read_token, read_nothing}
+use Rattle.grammar_rules.specs.Readers.{Answer, Reader, sees, spend, spend_on, read_token, read_nothing}
 use Rattle.grammar_rules.specs.Readers.Answer.{got, wrong, large}
 use Rattle.grammar_rules.proofs.Leaves.{leaves_all}
-use Rattle.grammar_rules.specs.Exactness.{Shape, HasShape, Exact, Says, LeavesAtMost, BeginsIn, IsLight, token_shape, nothing_shape}
+use Rattle.grammar_rules.specs.Exactness.{Shape, HasShape, Exact, Says, LeavesAtMost, BeginsIn, IsLight, IsWithin, token_shape, nothing_shape}
 
 -- spending a weight
 pub spend_enough : {T A : Type 0} (w b : ℕ) (a : A) (rest : List T) → spend w a (w + b) rest ≡ got a rest b
@@ -23,65 +23,66 @@ pub spend_short : {T A : Type 0} (w b : ℕ) (a : A) (rest : List T) → b < w �
 spend_short w b a rest short =
     let over : nat_le w b ≡ false = grind (arith, nat_tests) in rw over refl
 
-spend_says : {T : Type 0} (class : T → ℕ) (w : ℕ) (set : List ℕ) (b : ℕ) (t : T) (ts : List T) → has set (class t) ≡ true → Says (token class w set) b (t ∷ ts) (spend w t b ts)
-spend_says class w set b t ts fits =
-    elim (nat_le w b) as (λ x. nat_le w b ≡ x → Says (token class w set) b (t ∷ ts) (if x then got t ts (b - w) else large)) [
-      true ↦ λ e. let enough : w ≤ b = leb-true w b e in (t ∷ [], w, refl, omega arith, this t fits)
-    | false ↦ λ e. (t ∷ [], ts, w, refl, grind (arith, nat_tests), behind t fits)
+spend_says : {T A : Type 0} (value : T → Option A) (w b : ℕ) (t : T) (ts : List T) (a : A) → value t ≡ Some a → Says (token value w) b (t ∷ ts) (spend w a b ts)
+spend_says value w b t ts a is =
+    elim (nat_le w b) as (λ x. nat_le w b ≡ x → Says (token value w) b (t ∷ ts) (if x then got a ts (b - w) else large)) [
+      true ↦ λ e. let enough : w ≤ b = leb-true w b e in (t ∷ [], w, refl, omega arith, this t a is)
+    | false ↦ λ e. (t ∷ [], ts, w, refl, grind (arith, nat_tests), behind t a is)
     ] refl
 
-token_says : {T : Type 0} (class : T → ℕ) (w : ℕ) (set : List ℕ) (b : ℕ) (ts : List T) → Says (token class w set) b ts (read_token class w set b ts)
-token_says class w set b [] = ([], [], 0, refl, omega arith, before, refl)
-token_says class w set b (t ∷ ts) =
-    elim (has set (class t)) as (λ x. has set (class t) ≡ x → Says (token class w set) b (t ∷ ts) (if x then spend w t b ts else wrong (length (t ∷ ts)))) [
-      true ↦ λ e. spend_says class w set b t ts e
-    | false ↦ λ e. ([], t ∷ ts, 0, refl, omega arith, before, refl)
-    ] refl
+value_says : {T A : Type 0} (value : T → Option A) (w b : ℕ) (t : T) (ts : List T) (v : Option A) → value t ≡ v → Says (token value w) b (t ∷ ts) (spend_on v w t b ts)
+value_says value w b t ts (Some a) is = spend_says value w b t ts a is
+value_says value w b t ts None is = ([], t ∷ ts, 0, refl, omega arith, before, refl)
 
-token_gets : {T : Type 0} (class : T → ℕ) (weight : ℕ) (set : List ℕ) (b : ℕ) (us rest : List T) (w : ℕ) (t : T) → TakesToken class weight set us w t → read_token class weight set (w + b) (us ++ rest) ≡ got t rest b
-token_gets class weight set b us rest w t (this u fits) = rw fits (spend_enough weight b u rest)
+token_says : {T A : Type 0} (value : T → Option A) (w b : ℕ) (ts : List T) → Says (token value w) b ts (read_token value w b ts)
+token_says value w b [] = ([], [], 0, refl, omega arith, before, refl)
+token_says value w b (t ∷ ts) = value_says value w b t ts (value t) refl
 
-token_exceeds : {T : Type 0} (class : T → ℕ) (weight : ℕ) (set : List ℕ) (b : ℕ) (us rest : List T) (w : ℕ) → FrontOfToken class weight set us w → b < w → read_token class weight set b (us ++ rest) ≡ large
-token_exceeds class weight set b us rest w before over = absurd (omega arith)
-token_exceeds class weight set b us rest w (behind u fits) over = rw fits (spend_short weight b u rest over)
+token_gets : {T A : Type 0} (value : T → Option A) (weight b : ℕ) (us rest : List T) (w : ℕ) (a : A) → TakesToken value weight us w a → read_token value weight (w + b) (us ++ rest) ≡ got a rest b
+token_gets value weight b us rest w a (this u x is) = rw is (spend_enough weight b x rest)
 
-token_reaches : {T : Type 0} (class : T → ℕ) (weight : ℕ) (set : List ℕ) (b : ℕ) (us rest : List T) (w : ℕ) → FrontOfToken class weight set us w → w ≤ b → LeavesAtMost rest (read_token class weight set b (us ++ rest))
-token_reaches class weight set b us rest w before fits = leaves_all (token class weight set) b rest (read_token class weight set b rest) (token_says class weight set b rest)
-token_reaches class weight set b us rest w (behind u is) fits =
+token_exceeds : {T A : Type 0} (value : T → Option A) (weight b : ℕ) (us rest : List T) (w : ℕ) → FrontOfToken value weight us w → b < w → read_token value weight b (us ++ rest) ≡ large
+token_exceeds value weight b us rest w before over = absurd (omega arith)
+token_exceeds value weight b us rest w (behind u x is) over = rw is (spend_short weight b x rest over)
+
+token_reaches : {T A : Type 0} (value : T → Option A) (weight b : ℕ) (us rest : List T) (w : ℕ) → FrontOfToken value weight us w → w ≤ b → LeavesAtMost rest (read_token value weight b (us ++ rest))
+token_reaches value weight b us rest w before fits = leaves_all (token value weight) b rest (read_token value weight b rest) (token_says value weight b rest)
+token_reaches value weight b us rest w (behind u x is) fits =
     let all : b ≡ weight + (b - weight) = omega arith in
-    rw is (subst (λ (n : ℕ). LeavesAtMost rest (spend weight u n rest)) (sym all) (rw (spend_enough weight (b - weight) u rest) (omega arith)))
+    rw is (subst (λ (n : ℕ). LeavesAtMost rest (spend weight x n rest)) (sym all) (rw (spend_enough weight (b - weight) x rest) (omega arith)))
 
-token_begins : {T : Type 0} (class : T → ℕ) (weight : ℕ) (set : List ℕ) (us : List T) (w : ℕ) (t : T) → TakesToken class weight set us w t → BeginsIn class set false us
-token_begins class weight set us w t (this u is) = is
+token_begins : {T A : Type 0} (class : T → ℕ) (set : List ℕ) (value : T → Option A) (weight : ℕ) → IsWithin class set value → (us : List T) (w : ℕ) (a : A) → TakesToken value weight us w a → BeginsIn class set false us
+token_begins class set value weight within us w a (this u x is) = within u x is
 
-token_begins_front : {T : Type 0} (class : T → ℕ) (weight : ℕ) (set : List ℕ) (us : List T) (w : ℕ) → FrontOfToken class weight set us w → BeginsIn class set true us
-token_begins_front class weight set us w before = refl
-token_begins_front class weight set us w (behind u is) = is
+token_begins_front : {T A : Type 0} (class : T → ℕ) (set : List ℕ) (value : T → Option A) (weight : ℕ) → IsWithin class set value → (us : List T) (w : ℕ) → FrontOfToken value weight us w → BeginsIn class set true us
+token_begins_front class set value weight within us w before = refl
+token_begins_front class set value weight within us w (behind u x is) = within u x is
 
-token_light : {T : Type 0} (class : T → ℕ) (weight : ℕ) (set : List ℕ) (us : List T) (w : ℕ) → FrontOfToken class weight set us w → IsLight us w
-token_light class weight set us w before = refl
-token_light class weight set us w (behind u is) = tt
+token_light : {T A : Type 0} (value : T → Option A) (weight : ℕ) (us : List T) (w : ℕ) → FrontOfToken value weight us w → IsLight us w
+token_light value weight us w before = refl
+token_light value weight us w (behind u x is) = tt
 
-token_whole : {T : Type 0} (class : T → ℕ) (weight : ℕ) (set : List ℕ) (us : List T) (w : ℕ) (t : T) → TakesToken class weight set us w t → FrontOfToken class weight set us w
-token_whole class weight set us w t (this u is) = behind u is
+token_whole : {T A : Type 0} (value : T → Option A) (weight : ℕ) (us : List T) (w : ℕ) (a : A) → TakesToken value weight us w a → FrontOfToken value weight us w
+token_whole value weight us w a (this u x is) = behind u x is
 
-pub token_shaped : {T : Type 0} (class : T → ℕ) (weight : ℕ) (set : List ℕ) → HasShape class (token_shape set) (token class weight set)
-token_shaped class weight set = record {
-  begins = token_begins class weight set;
-  begins_front = token_begins_front class weight set;
-  light = token_light class weight set;
+pub token_shaped : {T A : Type 0} (class : T → ℕ) (set : List ℕ) (value : T → Option A) (weight : ℕ) → IsWithin class set value → HasShape class (token_shape set) (token value weight)
+token_shaped class set value weight within = record {
+  begins = token_begins class set value weight within;
+  begins_front = token_begins_front class set value weight within;
+  light = token_light value weight;
   empty_front = before;
-  whole_front = token_whole class weight set;
+  whole_front = token_whole value weight;
 }
 
-pub token_exact : {T : Type 0} (class : T → ℕ) (weight : ℕ) (set : List ℕ) (depth : ℕ) → Exact class (token_shape set) depth (token class weight set) (token class weight set) (read_token class weight set)
-token_exact class weight set depth = record {
-  says = token_says class weight set;
-  gets = λ b us rest w t in_depth takes unseen. token_gets class weight set b us rest w t takes;
-  reaches = λ b us rest w in_depth front fits. token_reaches class weight set b us rest w front fits;
-  exceeds = λ b us rest w in_depth front over. token_exceeds class weight set b us rest w front over;
-  sure_shape = token_shaped class weight set;
-  shaped = token_shaped class weight set;
+-- A token that has a value, of a class of the set.
+pub token_exact : {T A : Type 0} (class : T → ℕ) (set : List ℕ) (value : T → Option A) (weight : ℕ) → IsWithin class set value → (depth : ℕ) → Exact class (token_shape set) depth (token value weight) (token value weight) (read_token value weight)
+token_exact class set value weight within depth = record {
+  says = token_says value weight;
+  gets = λ b us rest w a in_depth takes unseen. token_gets value weight b us rest w a takes;
+  reaches = λ b us rest w in_depth front fits. token_reaches value weight b us rest w front fits;
+  exceeds = λ b us rest w in_depth front over. token_exceeds value weight b us rest w front over;
+  sure_shape = token_shaped class set value weight within;
+  shaped = token_shaped class set value weight within;
 }
 
 nothing_gets : {T A : Type 0} (a : A) (b : ℕ) (us rest : List T) (w : ℕ) (c : A) → TakesNothing a us w c → read_nothing a (w + b) (us ++ rest) ≡ got c rest b

@@ -1,7 +1,7 @@
 -- What it means that a reader follows a rule exactly.
-use Rattle.std.specs.Prelude.{◌≡◌, ℕ, ◌+◌, ◌<◌, ◌≤◌, Bool, true, false, not, ◌&&◌, if◌then◌else◌, List, [], ◌∷◌, ◌++◌, length, IsTrue}
-use Rattle.grammar_rules.specs.Rules.{Rule, has}
-use Rattle.grammar_rules.specs.Readers.{Answer, got, wrong, large, Reader, sees}
+use Rattle.std.specs.Prelude.{◌≡◌, ℕ, ◌+◌, ◌<◌, ◌≤◌, Bool, true, false, not, ◌&&◌, if◌then◌else◌, List, [], ◌∷◌, ◌++◌, length, Option, Some}
+use Rattle.grammar_rules.specs.Rules.{Rule}
+use Rattle.grammar_rules.specs.Readers.{Answer, got, wrong, large, Reader, has, sees}
 
 -- the classes with which a rule begins, whether it takes the empty list, and the classes that could go
 -- on behind what it takes
@@ -57,6 +57,10 @@ is_subset (x ∷ xs) ys = has ys x && is_subset xs ys
 abbrev pub is_disjoint : List ℕ → List ℕ → Bool
 is_disjoint [] ys = true
 is_disjoint (x ∷ xs) ys = not (has ys x) && is_disjoint xs ys
+
+-- tokens with a value have their class in the set
+abbrev pub IsWithin : {T A : Type 0} → (T → ℕ) → List ℕ → (T → Option A) → Type 0
+IsWithin class set value = (t : _) (a : _) → value t ≡ Some a → has set (class t) ≡ true
 
 -- the shapes of the ways of building a rule
 abbrev pub token_shape : List ℕ → Shape

@@ -1,7 +1,7 @@
 -- Readers as functions on token lists, one for each way of building a rule. A reader is given a budget
 -- of weight and the tokens, and decides by the next token alone, by sets that are written out.
-use Rattle.std.specs.Prelude.{ℕ, zero, suc, ◌+◌, ◌-◌, min, Bool, true, false, if◌then◌else◌, nat_le, List, [], ◌∷◌, length, Option, Some, None}
-use Rattle.grammar_rules.specs.Rules.{has, single, put_last}
+use Rattle.std.specs.Prelude.{ℕ, zero, suc, ◌+◌, ◌-◌, min, Bool, true, false, ◌||◌, ◌==◌, if◌then◌else◌, nat_le, List, [], ◌∷◌, length, Option, Some, None}
+use Rattle.grammar_rules.specs.Rules.{single, put_last}
 
 -- what a reader answers: a value, with the tokens and the budget that are left; that the reading can't
 -- go on, where so many tokens are left; or that the budget is exceeded
@@ -19,6 +19,11 @@ after (got a rest budget) go_on = go_on a budget rest
 after (wrong remaining) go_on = wrong remaining
 after large go_on = large
 
+-- A set of tokens is a list of classes.
+abbrev pub has : List ℕ → ℕ → Bool
+has [] c = false
+has (x ∷ xs) c = c == x || has xs c
+
 -- the look-ahead: the next token is in the set
 abbrev pub sees : {T : Type 0} → (T → ℕ) → List ℕ → List T → Bool
 sees class set [] = false
@@ -27,9 +32,13 @@ sees class set (t ∷ ts) = has set (class t)
 abbrev pub spend : {T A : Type 0} → ℕ → A → Reader T A
 spend weight a budget rest = if nat_le weight budget then got a rest (budget - weight) else large
 
-abbrev pub read_token : {T : Type 0} → (T → ℕ) → ℕ → List ℕ → Reader T T
-read_token class weight set budget [] = wrong 0
-read_token class weight set budget (t ∷ ts) = if has set (class t) then spend weight t budget ts else wrong (length (t ∷ ts))
+abbrev pub spend_on : {T A : Type 0} → Option A → ℕ → T → Reader T A
+spend_on (Some a) weight t budget ts = spend weight a budget ts
+spend_on None weight t budget ts = wrong (length (t ∷ ts))
+
+abbrev pub read_token : {T A : Type 0} → (T → Option A) → ℕ → Reader T A
+read_token value weight budget [] = wrong 0
+read_token value weight budget (t ∷ ts) = spend_on (value t) weight t budget ts
 
 abbrev pub read_nothing : {T A : Type 0} → A → Reader T A
 read_nothing a budget ts = got a ts budget

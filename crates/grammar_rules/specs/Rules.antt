@@ -3,27 +3,22 @@
 -- going from left to right may have read while it is still in the rule. The weight of a list is that of
 -- its tokens, as their places in the rule say.
 -- The empty list is a front of every rule.
-use Rattle.std.specs.Prelude.{ℕ, zero, suc, ◌+◌, ◌-◌, Bool, true, false, ◌||◌, ◌==◌, if◌then◌else◌, List, [], ◌∷◌, ◌++◌, ◌⊎◌, Option, Some, None, IsTrue}
+use Rattle.std.specs.Prelude.{◌≡◌, ℕ, zero, suc, ◌+◌, ◌-◌, List, [], ◌∷◌, ◌++◌, ◌⊎◌, Option, Some, None}
 
 pub record Rule (T A : Type 0) : Type 1 where
   pub takes : List T → ℕ → A → Type 0
   pub front : List T → ℕ → Type 0
 
--- A set of tokens is a list of classes.
-abbrev pub has : List ℕ → ℕ → Bool
-has [] c = false
-has (x ∷ xs) c = c == x || has xs c
+-- A token that has a value here. Its own list is a front.
+pub data TakesToken {T A : Type 0} (value : T → Option A) (weight : ℕ) : List T → ℕ → A → Type 0 where
+  this : (t : T) (a : A) → value t ≡ Some a → TakesToken value weight (t ∷ []) weight a
 
--- A token of a set. Its own list is a front.
-pub data TakesToken {T : Type 0} (class : T → ℕ) (weight : ℕ) (set : List ℕ) : List T → ℕ → T → Type 0 where
-  this : (t : T) → IsTrue (has set (class t)) → TakesToken class weight set (t ∷ []) weight t
+pub data FrontOfToken {T A : Type 0} (value : T → Option A) (weight : ℕ) : List T → ℕ → Type 0 where
+  before : FrontOfToken value weight [] 0
+  behind : (t : T) (a : A) → value t ≡ Some a → FrontOfToken value weight (t ∷ []) weight
 
-pub data FrontOfToken {T : Type 0} (class : T → ℕ) (weight : ℕ) (set : List ℕ) : List T → ℕ → Type 0 where
-  before : FrontOfToken class weight set [] 0
-  behind : (t : T) → IsTrue (has set (class t)) → FrontOfToken class weight set (t ∷ []) weight
-
-abbrev pub token : {T : Type 0} → (T → ℕ) → ℕ → List ℕ → Rule T T
-token class weight set = record { takes = TakesToken class weight set; front = FrontOfToken class weight set }
+abbrev pub token : {T A : Type 0} → (T → Option A) → ℕ → Rule T A
+token value weight = record { takes = TakesToken value weight; front = FrontOfToken value weight }
 
 -- Nothing, with a value.
 pub data TakesNothing {T A : Type 0} (a : A) : List T → ℕ → A → Type 0 where

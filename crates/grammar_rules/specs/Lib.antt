@@ -2,3 +2,5 @@ pub mod Rules
 pub mod Readers
 pub mod Exactness
 pub mod Whole
+pub mod Tokens
+pub mod Gives

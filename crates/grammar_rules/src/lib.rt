@@ -1,2 +1,12 @@
 //! A small theory of grammar rules, and the cursor that readers move over tokens.
+//!
+//! `specs/Rules.antt` has the ways of building a rule, with what it takes and its fronts,
+//! `specs/Readers.antt` the readers as functions on lists, and `specs/Exactness.antt` what it means
+//! that a reader follows a rule exactly. The laws in `proofs/` prove that once for each way.
 #![tactic(auto)]
+
+mod cursor;
+mod fault;
+
+pub use cursor::Cursor;
+pub use fault::ReadError;

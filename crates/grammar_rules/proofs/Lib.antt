@@ -8,3 +8,5 @@ pub mod Many
 pub mod Fresh
 pub mod Recursive
 pub mod Whole
+pub mod Tokens
+pub mod SumRules

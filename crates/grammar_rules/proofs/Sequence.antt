@@ -1,7 +1,7 @@
 -- The law of a sequence. The second reader may use the first one's value, as long as what it answers is
 -- the value that the rule puts together.
-use Rattle.std.proofs.Common.{◌≡◌, ℕ, ◌+◌, ◌-◌, ◌<◌, ◌≤◌, Bool, true, false, ◌&&◌, if◌then◌else◌, List, [], ◌∷◌, ◌++◌, ◌⊎◌, inl, inr, length, arith, refl, sym, ◌∙◌, ap, subst, append_assoc, append-nil, add_assoc, add-zero, Option, Some}
-use Rattle.std.proofs.lemmas.Bool.Decides.{nat_tests}
+use Rattle.std.proofs.Common.{◌≡◌, ℕ, ◌+◌, ◌-◌, ◌<◌, ◌≤◌, Bool, true, false, ◌&&◌, if◌then◌else◌, List, [], ◌∷◌, ◌++◌, ◌⊎◌, inl, inr, length, arith, refl, sym, ◌∙◌, ap, subst, append_assoc, append-nil, add_assoc, add-zero, Option, Some, suc, nat_le}
+use Rattle.std.proofs.lemmas.Bool.{leb-true}
 use Rattle.grammar_rules.specs.Rules.{Rule, token, sequence, TakesToken, mapped_to, TakesSequence, FrontOfSequence, TakesMapped}
 use Rattle.grammar_rules.specs.Rules.TakesToken.{this}
 use Rattle.grammar_rules.specs.Rules.TakesSequence.{both}
@@ -210,18 +210,20 @@ pub sequence_exact : {T A B C : Type 0} {class : T → ℕ} {one two : Shape} {d
     → Exact class (sequence_shape one two) depth (sequence f sure sure') (sequence f p q) (read_sequence f first second)
 sequence_exact f exact exact' apart = sequence_exact_then f exact (λ a. mapped_exact (f a) exact') apart
 
--- A token and what stands behind it, which may be read deeper by the token's weight.
-token_weighs : {T A : Type 0} (value : T → Option A) (weight : ℕ) (us : List T) (w : ℕ) (a : A) → TakesToken value weight us w a → weight ≤ w
-token_weighs value weight us w a (this u x is) = omega arith
+-- A token that weighs something, and what stands behind it, which is read one level deeper.
+token_weighs : {T A : Type 0} (value : T → Option A) (weight : ℕ) → nat_le 1 weight ≡ true → (us : List T) (w : ℕ) (a : A) → TakesToken value weight us w a → 1 ≤ w
+token_weighs value weight some us w a (this u x is) = leb-true 1 weight some
 
-pub guarded_exact : {T A B C : Type 0} {class : T → ℕ} {two : Shape} {depth : ℕ} {sure' q : Rule T B} {second : Reader T B} (set : List ℕ) (value : T → Option A) (weight : ℕ) → IsWithin class set value → (f : A → B → C)
+pub guarded_exact : {T A B C : Type 0} {class : T → ℕ} {two : Shape} {depth : ℕ} {sure' q : Rule T B} {second : Reader T B} (set : List ℕ) (value : T → Option A) (weight : ℕ) → IsWithin class set value → nat_le 1 weight ≡ true → (f : A → B → C)
     → Exact class two depth sure' q second
-    → Exact class (sequence_shape (token_shape set) two) (weight + depth) (sequence f (token value weight) sure') (sequence f (token value weight) q) (read_sequence f (read_token value weight) second)
-guarded_exact {class = class} {two = two} {depth = depth} {sure' = sure'} {q = q} {second = second} set value weight within f exact' =
-    sequence_exact_of class (token_shape set) two f weight depth (token value weight) (token value weight) sure' q (read_token value weight) (λ a. read_mapped (f a) second)
+    → Exact class (sequence_shape (token_shape set) two) (suc depth) (sequence f (token value weight) sure') (sequence f (token value weight) q) (read_sequence f (read_token value weight) second)
+guarded_exact {class = class} {two = two} {depth = depth} {sure' = sure'} {q = q} {second = second} set value weight within some f exact' =
+    let deeper : 1 + depth ≡ suc depth = omega arith in
+    subst (λ (n : ℕ). Exact class (sequence_shape (token_shape set) two) n (sequence f (token value weight) sure') (sequence f (token value weight) q) (read_sequence f (read_token value weight) second)) deeper
+    (sequence_exact_of class (token_shape set) two f 1 depth (token value weight) (token value weight) sure' q (read_token value weight) (λ a. read_mapped (f a) second)
     (record {
-      exact = token_exact class set value weight within (weight + depth);
-      guarded = token_weighs value weight;
+      exact = token_exact class set value weight within (1 + depth);
+      guarded = token_weighs value weight some;
       exact' = λ a. mapped_exact (f a) exact';
       apart = disjoint_none two.first;
-    })
+    }))

@@ -4,3 +4,4 @@ pub mod Exactness
 pub mod Whole
 pub mod Tokens
 pub mod Gives
+pub mod Sums

@@ -7,6 +7,8 @@
 
 mod cursor;
 mod fault;
+mod sums;
 
 pub use cursor::Cursor;
 pub use fault::ReadError;
+pub use sums::Sign;

@@ -1,0 +1,82 @@
+-- The readers of sums follow their rules: a few lines for each rule.
+use Rattle.std.proofs.Common.{◌≡◌, ℕ, suc, ◌<◌, ◌==◌, ◌||◌, Bool, true, false, if◌then◌else◌, List, [], ◌∷◌, Option, Some, None, refl, lt-suc_self}
+use Rattle.az_text.specs.declared.mark.MarkKind.TheVariants.{OpenParen, CloseParen, Plus, Minus, Star}
+use Rattle.az_text.specs.declared.token.Token.{Token}
+use Rattle.az_text.specs.declared.token.TokenKind.{TokenKind}
+use Rattle.az_text.specs.declared.token.TokenKind.TheVariants.{Word, Number, Quoted, Mark}
+use Rattle.grammar_rules.specs.declared.sums.Sign.{Sign}
+use Rattle.grammar_rules.specs.declared.sums.Sign.TheVariants.{Add, Subtract}
+use Rattle.grammar_rules.specs.Rules.{Rule}
+use Rattle.grammar_rules.specs.Readers.{Reader, has, read_level}
+use Rattle.grammar_rules.specs.Exactness.{Shape, Exact, IsWithin, token_shape, sequence_shape, choice_shape, many_shape}
+use Rattle.grammar_rules.specs.Tokens.{mark_class, kind_class, mark_of, number_of}
+use Rattle.grammar_rules.specs.Whole.{IsVerdict, verdict}
+use Rattle.grammar_rules.specs.Sums.{class, kind_sign, sign_of, signed, times, pair, behind_mark, before_mark, negated_behind, primary, unary, product, sum_body, sum, read_primary, read_unary, read_factor, read_product, read_term, read_sum_body, read_sum}
+use Rattle.grammar_rules.proofs.Token.{token_exact}
+use Rattle.grammar_rules.proofs.Sequence.{sequence_exact, guarded_exact}
+use Rattle.grammar_rules.proofs.Choice.{choice_exact}
+use Rattle.grammar_rules.proofs.Many.{left_exact}
+use Rattle.grammar_rules.proofs.Recursive.{recursive_exact}
+use Rattle.grammar_rules.proofs.Whole.{verdict_exact}
+use Rattle.grammar_rules.proofs.Tokens.{mark_within, number_within}
+
+sign_classes : (c : ℕ) (a : Sign) → (if c == 19 then Some Add else (if c == 20 then Some Subtract else None)) ≡ Some a → has (19 ∷ 20 ∷ []) c ≡ true
+sign_classes c a =
+    elim (c == 19) as (λ x. (if x then Some Add else (if c == 20 then Some Subtract else None)) ≡ Some a → (x || (c == 20 || false)) ≡ true) [
+      true ↦ λ is. refl
+    | false ↦ elim (c == 20) as (λ y. (if y then Some Subtract else None) ≡ Some a → (y || false) ≡ true) [ true ↦ λ is. refl | false ↦ λ is. absurd (cc) ]
+    ]
+
+kind_sign_within : (kind : TokenKind) (a : Sign) → kind_sign kind ≡ Some a → has (19 ∷ 20 ∷ []) (kind_class [] kind) ≡ true
+kind_sign_within (Mark kind) a is = sign_classes (mark_class kind) a is
+kind_sign_within (Word word) a is = absurd (cc)
+kind_sign_within (Number n) a is = absurd (cc)
+kind_sign_within (Quoted text) a is = absurd (cc)
+
+sign_within : IsWithin class (19 ∷ 20 ∷ []) sign_of
+sign_within t a is = kind_sign_within t.kind a is
+
+-- the shapes
+abbrev primary_shape : Shape
+primary_shape = record { first = 23 ∷ 4 ∷ []; empty = false; more = [] }
+
+abbrev unary_shape : Shape
+unary_shape = record { first = 20 ∷ 23 ∷ 4 ∷ []; empty = false; more = [] }
+
+abbrev product_shape : Shape
+product_shape = record { first = 20 ∷ 23 ∷ 4 ∷ []; empty = false; more = 21 ∷ [] }
+
+abbrev sum_shape : Shape
+sum_shape = record { first = 20 ∷ 23 ∷ 4 ∷ []; empty = false; more = 21 ∷ 19 ∷ 20 ∷ 21 ∷ [] }
+
+-- the rules
+primary_exact : (depth : ℕ) (sure rule : Rule Token ℕ) (reader : Reader Token ℕ) → Exact class sum_shape depth sure rule reader → Exact class primary_shape (suc depth) (primary sure) (primary rule) (read_primary reader)
+primary_exact depth sure rule reader inner =
+    choice_exact (23 ∷ []) (token_exact class (23 ∷ []) number_of 1 (number_within []) (suc depth))
+    (guarded_exact (4 ∷ []) (mark_of OpenParen) 1 (mark_within [] OpenParen) refl behind_mark (sequence_exact before_mark inner (token_exact class (5 ∷ []) (mark_of CloseParen) 0 (mark_within [] CloseParen) depth) refl))
+    refl refl refl
+
+unary_exact : (depth : ℕ) (sure rule : Rule Token ℕ) (reader : Reader Token ℕ) → Exact class sum_shape depth sure rule reader → Exact class unary_shape (suc depth) (unary sure) (unary rule) (read_unary reader)
+unary_exact depth sure rule reader inner =
+    choice_exact (20 ∷ [])
+    (sequence_exact negated_behind (token_exact class (20 ∷ []) (mark_of Minus) 1 (mark_within [] Minus) (suc depth)) (primary_exact depth sure rule reader inner) refl)
+    (primary_exact depth sure rule reader inner) refl refl refl
+
+product_exact : (depth : ℕ) (sure rule : Rule Token ℕ) (reader : Reader Token ℕ) → Exact class sum_shape depth sure rule reader → Exact class product_shape (suc depth) (product sure) (product rule) (read_product reader)
+product_exact depth sure rule reader inner =
+    left_exact (21 ∷ []) times (unary_exact depth sure rule reader inner)
+    (sequence_exact behind_mark (token_exact class (21 ∷ []) (mark_of Star) 1 (mark_within [] Star) (suc depth)) (unary_exact depth sure rule reader inner) refl)
+    refl refl refl refl
+
+sum_body_exact : (depth : ℕ) (sure rule : Rule Token ℕ) (reader : Reader Token ℕ) → Exact class sum_shape depth sure rule reader → Exact class sum_shape (suc depth) (sum_body sure) (sum_body rule) (read_sum_body reader)
+sum_body_exact depth sure rule reader inner =
+    left_exact (19 ∷ 20 ∷ []) signed (product_exact depth sure rule reader inner)
+    (sequence_exact pair (token_exact class (19 ∷ 20 ∷ []) sign_of 1 sign_within (suc depth)) (product_exact depth sure rule reader inner) refl)
+    refl refl refl refl
+
+pub sum_exact : (depth : ℕ) → Exact class sum_shape depth sum sum (read_sum depth)
+unfolding read_sum
+sum_exact depth = recursive_exact class sum_shape sum_body read_sum_body sum_body_exact depth
+
+pub sum_verdict : (limit : ℕ) (ts : List Token) → IsVerdict sum limit ts (verdict (read_sum (suc limit) limit ts))
+sum_verdict limit ts = verdict_exact (sum_exact (suc limit)) limit ts (lt-suc_self limit)

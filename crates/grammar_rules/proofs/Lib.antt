@@ -10,3 +10,4 @@ pub mod Recursive
 pub mod Whole
 pub mod Tokens
 pub mod SumRules
+pub mod Turns

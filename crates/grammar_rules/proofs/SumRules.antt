@@ -1,5 +1,5 @@
 -- The readers of sums follow their rules: a few lines for each rule.
-use Rattle.std.proofs.Common.{◌≡◌, ℕ, suc, ◌<◌, ◌==◌, ◌||◌, Bool, true, false, if◌then◌else◌, List, [], ◌∷◌, Option, Some, None, refl, lt-suc_self}
+use Rattle.std.proofs.Common.{◌≡◌, ℕ, suc, ◌<◌, ◌==◌, ◌||◌, Bool, true, false, if◌then◌else◌, List, [], ◌∷◌, Option, Some, None, refl, ap, length, lt-suc_self}
 use Rattle.az_text.specs.declared.mark.MarkKind.TheVariants.{OpenParen, CloseParen, Plus, Minus, Star}
 use Rattle.az_text.specs.declared.token.Token.{Token}
 use Rattle.az_text.specs.declared.token.TokenKind.{TokenKind}
@@ -8,15 +8,17 @@ use Rattle.grammar_rules.specs.declared.sums.Sign.{Sign}
 use Rattle.grammar_rules.specs.declared.sums.Sign.TheVariants.{Add, Subtract}
 use Rattle.grammar_rules.specs.Rules.{Rule}
 use Rattle.grammar_rules.specs.Readers.{Reader, has, read_level}
+use Rattle.grammar_rules.specs.Readers.Answer.{wrong}
 use Rattle.grammar_rules.specs.Exactness.{Shape, Exact, IsWithin, token_shape, sequence_shape, choice_shape, many_shape}
 use Rattle.grammar_rules.specs.Tokens.{mark_class, kind_class, mark_of, number_of}
 use Rattle.grammar_rules.specs.Whole.{IsVerdict, verdict}
-use Rattle.grammar_rules.specs.Sums.{class, kind_sign, sign_of, signed, times, pair, behind_mark, before_mark, negated_behind, primary, unary, product, sum_body, sum, read_primary, read_unary, read_factor, read_product, read_term, read_sum_body, read_sum}
+use Rattle.grammar_rules.specs.Sums.{class, kind_sign, sign_of, signed, times, pair, behind_mark, before_mark, negated_behind, primary, unary, factor, product, term, sum_body, sum, read_primary, read_unary, read_factor, read_product, read_term, read_sum_body, read_sum}
 use Rattle.grammar_rules.proofs.Token.{token_exact}
 use Rattle.grammar_rules.proofs.Sequence.{sequence_exact, guarded_exact}
 use Rattle.grammar_rules.proofs.Choice.{choice_exact}
 use Rattle.grammar_rules.proofs.Many.{left_exact}
 use Rattle.grammar_rules.proofs.Recursive.{recursive_exact}
+use Rattle.grammar_rules.proofs.Turns.{Advances, exact_advances}
 use Rattle.grammar_rules.proofs.Whole.{verdict_exact}
 use Rattle.grammar_rules.proofs.Tokens.{mark_within, number_within}
 
@@ -62,17 +64,27 @@ unary_exact depth sure rule reader inner =
     (sequence_exact negated_behind (token_exact class (20 ∷ []) (mark_of Minus) 1 (mark_within [] Minus) (suc depth)) (primary_exact depth sure rule reader inner) refl)
     (primary_exact depth sure rule reader inner) refl refl refl
 
+abbrev factor_shape : Shape
+factor_shape = record { first = 21 ∷ []; empty = false; more = [] }
+
+factor_exact : (depth : ℕ) (sure rule : Rule Token ℕ) (reader : Reader Token ℕ) → Exact class sum_shape depth sure rule reader → Exact class factor_shape (suc depth) (factor sure) (factor rule) (read_factor reader)
+factor_exact depth sure rule reader inner =
+    sequence_exact behind_mark (token_exact class (21 ∷ []) (mark_of Star) 1 (mark_within [] Star) (suc depth)) (unary_exact depth sure rule reader inner) refl
+
 product_exact : (depth : ℕ) (sure rule : Rule Token ℕ) (reader : Reader Token ℕ) → Exact class sum_shape depth sure rule reader → Exact class product_shape (suc depth) (product sure) (product rule) (read_product reader)
 product_exact depth sure rule reader inner =
-    left_exact (21 ∷ []) times (unary_exact depth sure rule reader inner)
-    (sequence_exact behind_mark (token_exact class (21 ∷ []) (mark_of Star) 1 (mark_within [] Star) (suc depth)) (unary_exact depth sure rule reader inner) refl)
-    refl refl refl refl
+    left_exact (21 ∷ []) times (unary_exact depth sure rule reader inner) (factor_exact depth sure rule reader inner) refl refl refl refl
+
+abbrev term_shape : Shape
+term_shape = record { first = 19 ∷ 20 ∷ []; empty = false; more = 21 ∷ [] }
+
+term_exact : (depth : ℕ) (sure rule : Rule Token ℕ) (reader : Reader Token ℕ) → Exact class sum_shape depth sure rule reader → Exact class term_shape (suc depth) (term sure) (term rule) (read_term reader)
+term_exact depth sure rule reader inner =
+    sequence_exact pair (token_exact class (19 ∷ 20 ∷ []) sign_of 1 sign_within (suc depth)) (product_exact depth sure rule reader inner) refl
 
 sum_body_exact : (depth : ℕ) (sure rule : Rule Token ℕ) (reader : Reader Token ℕ) → Exact class sum_shape depth sure rule reader → Exact class sum_shape (suc depth) (sum_body sure) (sum_body rule) (read_sum_body reader)
 sum_body_exact depth sure rule reader inner =
-    left_exact (19 ∷ 20 ∷ []) signed (product_exact depth sure rule reader inner)
-    (sequence_exact pair (token_exact class (19 ∷ 20 ∷ []) sign_of 1 sign_within (suc depth)) (product_exact depth sure rule reader inner) refl)
-    refl refl refl refl
+    left_exact (19 ∷ 20 ∷ []) signed (product_exact depth sure rule reader inner) (term_exact depth sure rule reader inner) refl refl refl refl
 
 pub sum_exact : (depth : ℕ) → Exact class sum_shape depth sum sum (read_sum depth)
 unfolding read_sum
@@ -80,3 +92,18 @@ sum_exact depth = recursive_exact class sum_shape sum_body read_sum_body sum_bod
 
 pub sum_verdict : (limit : ℕ) (ts : List Token) → IsVerdict sum limit ts (verdict (read_sum (suc limit) limit ts))
 sum_verdict limit ts = verdict_exact (sum_exact (suc limit)) limit ts (lt-suc_self limit)
+
+-- what the code needs: each factor and each term takes a token, and the depths
+pub factor_advances : (depth : ℕ) → Advances (read_factor (read_sum depth))
+factor_advances depth = exact_advances (factor_exact depth sum sum (read_sum depth) (sum_exact depth)) refl
+
+pub term_advances : (depth : ℕ) → Advances (read_term (read_sum depth))
+term_advances depth = exact_advances (term_exact depth sum sum (read_sum depth) (sum_exact depth)) refl
+
+pub at_ground : (b : ℕ) (ts : List Token) → read_sum 0 b ts ≡ wrong (length ts)
+unfolding read_sum
+at_ground b ts = refl
+
+pub deeper : (depth below b : ℕ) (ts : List Token) → depth ≡ suc below → read_sum depth b ts ≡ read_sum_body (read_sum below) b ts
+unfolding read_sum
+deeper depth below b ts is = ap (λ (n : ℕ). read_level read_sum_body n b ts) is

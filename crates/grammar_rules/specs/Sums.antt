@@ -57,11 +57,17 @@ primary sum = choice (token number_of 1) (sequence behind_mark (token (mark_of O
 abbrev pub unary : Rule Token ℕ → Rule Token ℕ
 unary sum = choice (sequence negated_behind (token (mark_of Minus) 1) (primary sum)) (primary sum)
 
+abbrev pub factor : Rule Token ℕ → Rule Token ℕ
+factor sum = sequence behind_mark (token (mark_of Star) 1) (unary sum)
+
 abbrev pub product : Rule Token ℕ → Rule Token ℕ
-product sum = left times (unary sum) (sequence behind_mark (token (mark_of Star) 1) (unary sum))
+product sum = left times (unary sum) (factor sum)
+
+abbrev pub term : Rule Token ℕ → Rule Token (Sign × ℕ)
+term sum = sequence pair (token sign_of 1) (product sum)
 
 abbrev pub sum_body : Rule Token ℕ → Rule Token ℕ
-sum_body sum = left signed (product sum) (sequence pair (token sign_of 1) (product sum))
+sum_body sum = left signed (product sum) (term sum)
 
 abbrev pub sum : Rule Token ℕ
 sum = recursive sum_body

@@ -63,7 +63,7 @@ impl<'a> Cursor<'a> {
     }
 
     /// Past a token of this weight, to what is left behind it.
-    fn past(self, weight: u32, rest: &'a [Token]) -> Result<Cursor<'a>, ReadError>
+    pub fn past(self, weight: u32, rest: &'a [Token]) -> Result<Cursor<'a>, ReadError>
         ensures { Passes result (spend weight tt self.entry.budget rest.now) }
     {
         if weight <= self.budget {

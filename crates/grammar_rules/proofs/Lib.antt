@@ -11,3 +11,4 @@ pub mod Whole
 pub mod Tokens
 pub mod SumRules
 pub mod Turns
+pub mod ReadBy

@@ -1,5 +1,5 @@
 -- The readers of sums follow their rules: a few lines for each rule.
-use Rattle.std.proofs.Common.{◌≡◌, ℕ, suc, ◌<◌, ◌==◌, ◌||◌, Bool, true, false, if◌then◌else◌, List, [], ◌∷◌, Option, Some, None, refl, ap, length, lt-suc_self}
+use Rattle.std.proofs.Common.{◌≡◌, ℕ, suc, ◌<◌, ◌==◌, ◌||◌, Bool, true, false, if◌then◌else◌, List, [], ◌∷◌, Option, Some, None, refl, ap, length, arith}
 use Rattle.az_text.specs.declared.mark.MarkKind.TheVariants.{OpenParen, CloseParen, Plus, Minus, Star}
 use Rattle.az_text.specs.declared.token.Token.{Token}
 use Rattle.az_text.specs.declared.token.TokenKind.{TokenKind}
@@ -90,8 +90,8 @@ pub sum_exact : (depth : ℕ) → Exact class sum_shape depth sum sum (read_sum 
 unfolding read_sum
 sum_exact depth = recursive_exact class sum_shape sum_body read_sum_body sum_body_exact depth
 
-pub sum_verdict : (limit : ℕ) (ts : List Token) → IsVerdict sum limit ts (verdict (read_sum (suc limit) limit ts))
-sum_verdict limit ts = verdict_exact (sum_exact (suc limit)) limit ts (lt-suc_self limit)
+pub sum_verdict : (limit depth : ℕ) (ts : List Token) → depth ≡ suc limit → IsVerdict sum limit ts (verdict (read_sum depth limit ts))
+sum_verdict limit depth ts is = verdict_exact (sum_exact depth) limit ts (omega arith)
 
 -- what the code needs: each factor and each term takes a token, and the depths
 pub factor_advances : (depth : ℕ) → Advances (read_factor (read_sum depth))

@@ -35,7 +35,11 @@ pub record IsTooHeavy {T A : Type 0} (rule : Rule T A) (limit : ℕ) (ts : List 
   pub front : (before : List T) × (later : List T) × (w : ℕ) × (ts ≡ before ++ later) × (limit < w) × rule.front before w
   pub no_sentence : (w : ℕ) (a : A) → rule.takes ts w a → limit < w
 
+-- the place, by how many tokens are left from it on
+abbrev pub IsMisplacedAt : {T A : Type 0} → Rule T A → ℕ → List T → ℕ → Type 0
+IsMisplacedAt rule limit ts remaining = (before : List _) × (rest : List _) × (remaining ≡ length rest) × IsMisplaced rule limit ts before rest
+
 abbrev pub IsVerdict : {T A : Type 0} → Rule T A → ℕ → List T → Verdict A → Type 0
 IsVerdict rule limit ts (parsed a) = IsSentence rule limit ts a
-IsVerdict rule limit ts (misplaced remaining) = (before : List _) × (rest : List _) × (remaining ≡ length rest) × IsMisplaced rule limit ts before rest
+IsVerdict rule limit ts (misplaced remaining) = IsMisplacedAt rule limit ts remaining
 IsVerdict rule limit ts too_heavy = IsTooHeavy rule limit ts

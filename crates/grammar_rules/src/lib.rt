@@ -6,9 +6,12 @@
 #![tactic(auto)]
 
 mod cursor;
+mod ending;
 mod fault;
 mod sums;
 
 pub use cursor::Cursor;
+pub use ending::finish;
 pub use fault::ReadError;
-pub use sums::Sign;
+pub use sums::{Sign, read_sum};
+

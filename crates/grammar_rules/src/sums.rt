@@ -1,11 +1,11 @@
 //! A small grammar, as an example: sums of whole numbers, with values modulo 2^128.
 
 ghost use Rattle.std.specs.Prelude.{◌≡◌, ◌%◌, ◌^◌, ◌-◌, ◌+◌, [], ◌∷◌};
-ghost use Rattle.grammar_rules.specs.Gives.{Gives};
+ghost use Rattle.grammar_rules.specs.Gives.{Gives, IsReadBy};
 ghost use Rattle.grammar_rules.specs.Readers.{read_token, sees};
-ghost use Rattle.grammar_rules.specs.Sums.{class, sign_of, signed, read_sum, read_product, read_unary, read_primary, read_term, read_factor, read_sum_body};
+ghost use Rattle.grammar_rules.specs.Sums.{class, sign_of, signed, sum, read_sum, read_product, read_unary, read_primary, read_term, read_factor, read_sum_body};
 
-use crate::{Cursor, ReadError};
+use crate::{Cursor, ReadError, finish};
 use az_text::{MarkKind, Token, TokenKind};
 
 #[derive(Clone, Copy)]
@@ -55,6 +55,13 @@ fn apply(value: u128, sign: Sign, term: u128) -> u128
         Sign::Add => value.wrapping_add(term),
         Sign::Subtract => value.wrapping_sub(term),
     }
+}
+
+/// The value of a sum of at most this weight.
+pub fn read_sum(tokens: &[Token], limit: u32) -> Result<u128, ReadError>
+    ensures { IsReadBy sum limit tokens.now result }
+{
+    finish(sum(Cursor::new(tokens, limit), u64::from(limit) + 1))
 }
 
 #[cycle(sums)]

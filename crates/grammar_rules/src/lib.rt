@@ -9,6 +9,8 @@ mod cursor;
 mod ending;
 mod fault;
 mod sums;
+#[cfg(test)]
+mod tests;
 
 pub use cursor::Cursor;
 pub use ending::finish;

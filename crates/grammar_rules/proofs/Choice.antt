@@ -1,11 +1,11 @@
 -- The law of a choice that the next token decides: it is in the set exactly where the first member may
 -- begin, and the first member isn't empty.
-use Rattle.std.proofs.Common.{◌≡◌, ℕ, ◌+◌, ◌<◌, ◌≤◌, Bool, true, false, if◌then◌else◌, List, [], ◌∷◌, ◌++◌, ◌⊎◌, inl, inr, Option, Some, None, arith, refl, sym, ◌∙◌, ap, subst}
-use Rattle.grammar_rules.specs.Rules.{Rule, choice, optional, give, mapped_to}
-use Rattle.grammar_rules.specs.Readers.{Answer, Reader, sees, read_choice, read_optional, read_mapped, read_nothing}
+use Rattle.std.proofs.Common.{◌≡◌, ℕ, ◌+◌, ◌<◌, ◌≤◌, Bool, true, false, if◌then◌else◌, List, [], ◌∷◌, ◌++◌, ◌⊎◌, inl, inr, Some, None, arith, refl, ◌∙◌}
+use Rattle.grammar_rules.specs.Rules.{Rule, choice, optional}
+use Rattle.grammar_rules.specs.Readers.{Answer, Reader, sees, read_choice, read_optional}
 use Rattle.grammar_rules.specs.Readers.Answer.{got, wrong, large}
-use Rattle.grammar_rules.specs.Exactness.{Shape, HasShape, Exact, Says, LeavesAtMost, BeginsIn, IsLight, is_subset, is_disjoint, choice_shape, nothing_shape}
-use Rattle.grammar_rules.proofs.LookAhead.{append-has_left, append-has_right, has_disjoint, disjoint_none, not_seen, not_seen_after, seen, sees_left, sees_right}
+use Rattle.grammar_rules.specs.Exactness.{Shape, HasShape, Exact, Says, LeavesAtMost, BeginsIn, is_subset, is_disjoint, choice_shape, nothing_shape}
+use Rattle.grammar_rules.proofs.LookAhead.{append-has_left, append-has_right, has_disjoint, not_seen, not_seen_after, seen, sees_left, sees_right}
 use Rattle.grammar_rules.proofs.Leaves.{leaves_all, leaves_as}
 use Rattle.grammar_rules.proofs.Mapped.{mapped_exact}
 use Rattle.grammar_rules.proofs.Token.{nothing_exact}
@@ -44,13 +44,13 @@ begins_full class first e (u ∷ us) never begins = begins
 pub choice_shaped : {T A : Type 0} {class : T → ℕ} {one two : Shape} {p q : Rule T A} (set : List ℕ) → HasShape class one p → HasShape class two q → one.empty ≡ false → HasShape class (choice_shape set one two) (choice p q)
 choice_shaped {class = class} {one = one} {two = two} {p = p} {q = q} set first second never = record {
   begins = λ us w a takes. elim takes [
-      inl t ↦ begins_first class one.first two.first one.empty two.empty us never (first.begins us w a t)
+    | inl t ↦ begins_first class one.first two.first one.empty two.empty us never (first.begins us w a t)
     | inr t ↦ begins_second class one.first two.first two.empty us (second.begins us w a t)
-    ];
+  ];
   begins_front = λ us w front. elim front [
-      inl t ↦ begins_front_first class one.first two.first us (first.begins_front us w t)
+    | inl t ↦ begins_front_first class one.first two.first us (first.begins_front us w t)
     | inr t ↦ begins_second class one.first two.first true us (second.begins_front us w t)
-    ];
+  ];
   light = λ us w front. elim front [ inl t ↦ first.light us w t | inr t ↦ second.light us w t ];
   empty_front = inl first.empty_front;
   whole_front = λ us w a takes. elim takes [ inl t ↦ inl (first.whole_front us w a t) | inr t ↦ inr (second.whole_front us w a t) ];

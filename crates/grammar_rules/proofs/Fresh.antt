@@ -1,5 +1,5 @@
 -- The law of a part with a limit of its own.
-use Rattle.std.proofs.Common.{◌≡◌, ℕ, zero, ◌+◌, ◌-◌, ◌<◌, ◌≤◌, min, List, [], ◌∷◌, ◌++◌, length, Bool, true, false, arith, refl, sym, ◌∙◌, ap, subst}
+use Rattle.std.proofs.Common.{◌≡◌, ℕ, ◌+◌, ◌-◌, ◌<◌, ◌≤◌, min, List, [], ◌∷◌, ◌++◌, true, false, arith, ◌∙◌, ap, subst}
 use Rattle.grammar_rules.specs.Rules.{Rule, fresh, TakesFresh, FrontOfFresh}
 use Rattle.grammar_rules.specs.Rules.TakesFresh.{above}
 use Rattle.grammar_rules.specs.Rules.FrontOfFresh.{above_front}

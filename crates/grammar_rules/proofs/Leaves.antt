@@ -1,6 +1,5 @@
 -- How much an answer leaves.
-use Rattle.std.proofs.Common.{◌≡◌, ℕ, ◌+◌, ◌≤◌, List, [], ◌∷◌, ◌++◌, ◌<◌, ◌⊎◌, inl, inr, Bool, true, false, nat_le, length, arith, refl, sym, ap, subst, length-append}
-use Rattle.std.proofs.lemmas.Bool.{leb-true}
+use Rattle.std.proofs.Common.{◌≡◌, ℕ, ◌≤◌, List, ◌++◌, ◌<◌, ◌⊎◌, inl, inr, length, arith, sym, subst, length-append}
 use Rattle.std.proofs.lemmas.Bool.Decides.{leb_tells}
 use Rattle.grammar_rules.specs.Rules.{Rule}
 use Rattle.grammar_rules.specs.Readers.{Answer}

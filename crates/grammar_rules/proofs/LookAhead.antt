@@ -1,5 +1,5 @@
 -- Sets of classes, and the next token after a list that begins in a set.
-use Rattle.std.proofs.Common.{◌≡◌, ℕ, Bool, true, false, not, ◌||◌, ◌&&◌, if◌then◌else◌, ◌==◌, List, [], ◌∷◌, ◌++◌, arith, refl, sym, ◌∙◌, subst, ap}
+use Rattle.std.proofs.Common.{◌≡◌, ℕ, Bool, true, false, not, ◌||◌, ◌&&◌, if◌then◌else◌, ◌==◌, List, [], ◌∷◌, ◌++◌, refl, sym, subst}
 use Rattle.std.proofs.lemmas.Bool.{eqb-true}
 use Rattle.grammar_rules.specs.Readers.{has, sees}
 use Rattle.grammar_rules.specs.Exactness.{BeginsIn, is_subset, is_disjoint}
@@ -53,16 +53,16 @@ pub has_subset : (xs ys : List ℕ) (c : ℕ) → is_subset xs ys ≡ true → h
 has_subset [] ys c s h = absurd (cc)
 has_subset (x ∷ xs) ys c s h =
     elim (c == x) as (λ b. c == x ≡ b → (b || has xs c) ≡ true → has ys c ≡ true) [
-      true ↦ λ e k. subst (λ (y : ℕ). has ys y ≡ true) (sym (eqb-true c x e)) (and_left (has ys x) (is_subset xs ys) s)
-    | false ↦ λ e k. has_subset xs ys c (and_right (has ys x) (is_subset xs ys) s) k
+      | true ↦ λ e k. subst (λ (y : ℕ). has ys y ≡ true) (sym (eqb-true c x e)) (and_left (has ys x) (is_subset xs ys) s)
+      | false ↦ λ e k. has_subset xs ys c (and_right (has ys x) (is_subset xs ys) s) k
     ] refl h
 
 pub has_disjoint : (xs ys : List ℕ) (c : ℕ) → is_disjoint xs ys ≡ true → has xs c ≡ true → has ys c ≡ false
 has_disjoint [] ys c s h = absurd (cc)
 has_disjoint (x ∷ xs) ys c s h =
     elim (c == x) as (λ b. c == x ≡ b → (b || has xs c) ≡ true → has ys c ≡ false) [
-      true ↦ λ e k. subst (λ (y : ℕ). has ys y ≡ false) (sym (eqb-true c x e)) (not_true (has ys x) (and_left (not (has ys x)) (is_disjoint xs ys) s))
-    | false ↦ λ e k. has_disjoint xs ys c (and_right (not (has ys x)) (is_disjoint xs ys) s) k
+      | true ↦ λ e k. subst (λ (y : ℕ). has ys y ≡ false) (sym (eqb-true c x e)) (not_true (has ys x) (and_left (not (has ys x)) (is_disjoint xs ys) s))
+      | false ↦ λ e k. has_disjoint xs ys c (and_right (not (has ys x)) (is_disjoint xs ys) s) k
     ] refl h
 
 -- What follows can't go on behind a part, where the rest begins with no such class, or is empty.

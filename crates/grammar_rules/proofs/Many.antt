@@ -1,14 +1,14 @@
 -- The law of a repetition, whose members are put to a value one after the other, and of a part with
 -- members that are grouped to it from the left.
-use Rattle.std.proofs.Common.{◌≡◌, ℕ, zero, suc, ◌+◌, ◌-◌, ◌<◌, ◌≤◌, Bool, true, false, if◌then◌else◌, List, [], ◌∷◌, ◌++◌, ◌⊎◌, inl, inr, length, arith, refl, sym, ◌∙◌, ap, subst, append_assoc, append-nil, add_assoc, zero-add, length-append}
-use Rattle.grammar_rules.specs.Rules.{Rule, many, mapped_to, grouped, left, single, put_last, list_of, sequence, TakesMany, FrontOfMany, TakesMapped}
+use Rattle.std.proofs.Common.{◌≡◌, ℕ, zero, suc, ◌+◌, ◌-◌, ◌<◌, ◌≤◌, Bool, true, false, if◌then◌else◌, List, [], ◌∷◌, ◌++◌, inl, inr, length, arith, refl, sym, ◌∙◌, ap, subst, append_assoc, append-nil, add_assoc, zero-add, length-append}
+use Rattle.grammar_rules.specs.Rules.{Rule, many, mapped_to, grouped, left, single, put_last, list_of, TakesMany, FrontOfMany, TakesMapped}
 use Rattle.grammar_rules.specs.Rules.TakesMany.{no_more, one_more}
 use Rattle.grammar_rules.specs.Rules.FrontOfMany.{of_next, after_one}
 use Rattle.grammar_rules.specs.Rules.TakesMapped.{mapped}
-use Rattle.grammar_rules.specs.Readers.{Answer, Reader, after, sees, read_turns, read_onto, read_left, read_many, read_list_of, read_then}
+use Rattle.grammar_rules.specs.Readers.{Answer, Reader, after, sees, read_turns, read_onto, read_left, read_many, read_list_of}
 use Rattle.grammar_rules.specs.Readers.Answer.{got, wrong, large}
 use Rattle.grammar_rules.specs.Exactness.{Shape, HasShape, Exact, Says, LeavesAtMost, BeginsIn, IsLight, is_subset, is_disjoint, many_shape, sequence_shape}
-use Rattle.grammar_rules.proofs.LookAhead.{append-has_left, append-has_right, has_disjoint, has_subset, sees_left, sees_right}
+use Rattle.grammar_rules.proofs.LookAhead.{has_disjoint, has_subset, sees_left, sees_right}
 use Rattle.grammar_rules.proofs.Leaves.{leaves_all, leaves_as, leaves_less, or_at_most}
 use Rattle.grammar_rules.proofs.Mapped.{mapped_shaped, mapped_exact, same_exact}
 use Rattle.grammar_rules.proofs.Sequence.{rejoin, sequence_exact_then}
@@ -82,8 +82,8 @@ turns_say : {T A B : Type 0} (class : T → ℕ) (set : List ℕ) (step : A → 
 turns_say class set step rule reader member zero a b ts = ([], 0, refl, omega arith, mapped no_more)
 turns_say class set step rule reader member (suc n) a b ts =
     elim (sees class set ts) as (λ s. Says (mapped_to (grouped step a) (many rule)) b ts (if s then after (reader b ts) (λ x. read_turns class set step reader n (step a x)) else got a ts b)) [
-      true ↦ says_turn step a rule (λ x. read_turns class set step reader n (step a x)) b ts (λ x budget rest. turns_say class set step rule reader member n (step a x) budget rest) (reader b ts) (member b ts)
-    | false ↦ ([], 0, refl, omega arith, mapped no_more)
+      | true ↦ says_turn step a rule (λ x. read_turns class set step reader n (step a x)) b ts (λ x budget rest. turns_say class set step rule reader member n (step a x) budget rest) (reader b ts) (member b ts)
+      | false ↦ ([], 0, refl, omega arith, mapped no_more)
     ]
 
 -- how the turns go
@@ -101,10 +101,12 @@ has_turn : {T A B : Type 0} (class : T → ℕ) (set : List ℕ) (one : Shape) (
     → (m : ℕ) × (length tail ≤ m) × (read_turns class set step reader n a (v + b) (us ++ tail) ≡ read_turns class set step reader m (step a x) b tail)
 has_turn class set one depth sure q reader step members n a b [] tail v x short in_depth t unseen = let begins = members.exact.shaped.begins [] v x t in let filled = members.filled in absurd (cc)
 has_turn class set one depth sure q reader step members zero a b (u ∷ us) tail v x short in_depth t unseen = absurd (omega arith)
-has_turn class set one depth sure q reader step members (suc n) a b (u ∷ us) tail v x short in_depth t unseen =
-    (n, (let sum = length-append us tail in omega arith),
-    goes_on class set step reader n a (v + b) (u ∷ (us ++ tail)) (has_subset one.first set (class u) members.inside (members.exact.shaped.begins (u ∷ us) v x t))
-    ∙ ap (λ answer. after answer (λ y. read_turns class set step reader n (step a y))) (members.exact.gets b (u ∷ us) tail v x in_depth t unseen))
+has_turn class set one depth sure q reader step members (suc n) a b (u ∷ us) tail v x short in_depth t unseen = (
+  n,
+  (let sum = length-append us tail in omega arith),
+  goes_on class set step reader n a (v + b) (u ∷ (us ++ tail)) (has_subset one.first set (class u) members.inside (members.exact.shaped.begins (u ∷ us) v x t))
+      ∙ ap (λ answer. after answer (λ y. read_turns class set step reader n (step a y))) (members.exact.gets b (u ∷ us) tail v x in_depth t unseen),
+)
 
 not_seen_tail : {T : Type 0} (class : T → ℕ) (first more : List ℕ) (vs rest : List T) → BeginsIn class first true vs → is_disjoint first more ≡ true → sees class more rest ≡ false → sees class more (vs ++ rest) ≡ false
 not_seen_tail class first more [] rest begins apart unseen = unseen
@@ -119,7 +121,7 @@ turns_get class set one depth sure q reader step members us w xs (one_more {us =
     let regroup : (v + y) + b ≡ v + (y + b) = add_assoc v y b in
     let regroup' : (vs ++ ws) ++ rest ≡ vs ++ (ws ++ rest) = append_assoc vs ws rest in
     let turn = has_turn class set one depth sure q reader step members n a (y + b) vs (ws ++ rest) v x (rw regroup' at short) (omega arith) t
-      (not_seen_tail class one.first one.more ws rest (many_begins class one q members.exact.shaped members.filled ws y more m) members.apart (sees_right class set one.more rest unseen)) in
+    (not_seen_tail class one.first one.more ws rest (many_begins class one q members.exact.shaped members.filled ws y more m) members.apart (sees_right class set one.more rest unseen)) in
     rw (regroup', regroup) (turn.2 ∙ turns_get class set one depth sure q reader step members ws y more m turn.0 (step a x) b rest turn.1 (omega arith) unseen)
 
 turn_leaves : {T A B : Type 0} (step : A → B → A) (a : A) (rule : Rule T B) (go_on : B → Reader T A) (rest : List T)
@@ -139,7 +141,7 @@ next_reaches class set one depth sure q reader step members zero a b (u ∷ us) 
 next_reaches class set one depth sure q reader step members (suc n) a b (u ∷ us) rest w short in_depth t fits =
     leaves_as rest _ _ (goes_on class set step reader n a b (u ∷ (us ++ rest)) (has_subset one.first set (class u) members.inside (members.exact.shaped.begins_front (u ∷ us) w t)))
     (turn_leaves step a sure (λ x. read_turns class set step reader n (step a x)) rest (λ x budget ts. turns_say class set step sure reader members.exact.says n (step a x) budget ts)
-      (reader b (u ∷ (us ++ rest))) (members.exact.reaches b (u ∷ us) rest w in_depth t fits))
+    (reader b (u ∷ (us ++ rest))) (members.exact.reaches b (u ∷ us) rest w in_depth t fits))
 
 next_exceeds : {T A B : Type 0} (class : T → ℕ) (set : List ℕ) (one : Shape) (depth : ℕ) (sure q : Rule T B) (reader : Reader T B) (step : A → B → A) → Members class set one depth sure q reader
     → (n : ℕ) (a : A) (b : ℕ) (us rest : List T) (w : ℕ) → length (us ++ rest) ≤ n → b < depth → q.front us w → b < w
@@ -162,7 +164,7 @@ turns_reach class set one depth sure q reader step members us w (after_one {us =
     let all : b ≡ v + (b - v) = omega arith in
     let regroup : (xs ++ (z ∷ zs)) ++ rest ≡ xs ++ (z ∷ (zs ++ rest)) = append_assoc xs (z ∷ zs) rest in
     let turn = has_turn class set one depth sure q reader step members n a (b - v) xs (z ∷ (zs ++ rest)) v x (rw regroup at short) (omega arith) t
-      (has_disjoint one.first one.more (class z) members.apart (many_begins_front class one q members.exact.shaped members.filled (z ∷ zs) y m)) in
+    (has_disjoint one.first one.more (class z) members.apart (many_begins_front class one q members.exact.shaped members.filled (z ∷ zs) y m)) in
     rw regroup (subst (λ (k : ℕ). LeavesAtMost rest (read_turns class set step reader n a k (xs ++ (z ∷ (zs ++ rest))))) (sym all)
     (leaves_as rest _ _ turn.2 (turns_reach class set one depth sure q reader step members (z ∷ zs) y m turn.0 (step a x) (b - v) rest turn.1 (omega arith) (omega arith))))
 
@@ -179,13 +181,13 @@ turns_exceed class set one depth sure q reader step members us w (of_next t) n a
 turns_exceed class set one depth sure q reader step members us w (after_one {us = xs} {vs} {v} {w = y} {a = x} t m) n a b rest short in_depth over =
     let regroup : (xs ++ vs) ++ rest ≡ xs ++ (vs ++ rest) = append_assoc xs vs rest in
     elim (or_at_most v b) [
-      inr under ↦ rw regroup (next_exceeds class set one depth sure q reader step members n a b xs (vs ++ rest) v (rw regroup at short) in_depth (members.exact.shaped.whole_front xs v x t) under)
-    | inl fits ↦
-      let all : b ≡ v + (b - v) = omega arith in
-      let unseen : sees class one.more (vs ++ rest) ≡ false = heavy_unseen class set one depth sure q reader members vs y m rest (omega arith) in
-      let turn = has_turn class set one depth sure q reader step members n a (b - v) xs (vs ++ rest) v x (rw regroup at short) (omega arith) t unseen in
-      rw regroup (subst (λ (k : ℕ). read_turns class set step reader n a k (xs ++ (vs ++ rest)) ≡ large) (sym all)
-      (turn.2 ∙ turns_exceed class set one depth sure q reader step members vs y m turn.0 (step a x) (b - v) rest turn.1 (omega arith) (omega arith)))
+      | inr under ↦ rw regroup (next_exceeds class set one depth sure q reader step members n a b xs (vs ++ rest) v (rw regroup at short) in_depth (members.exact.shaped.whole_front xs v x t) under)
+      | inl fits ↦
+          let all : b ≡ v + (b - v) = omega arith in
+          let unseen : sees class one.more (vs ++ rest) ≡ false = heavy_unseen class set one depth sure q reader members vs y m rest (omega arith) in
+          let turn = has_turn class set one depth sure q reader step members n a (b - v) xs (vs ++ rest) v x (rw regroup at short) (omega arith) t unseen in
+          rw regroup (subst (λ (k : ℕ). read_turns class set step reader n a k (xs ++ (vs ++ rest)) ≡ large) (sym all)
+          (turn.2 ∙ turns_exceed class set one depth sure q reader step members vs y m turn.0 (step a x) (b - v) rest turn.1 (omega arith) (omega arith)))
     ]
 
 onto_gets : {T A B : Type 0} (class : T → ℕ) (set : List ℕ) (one : Shape) (depth : ℕ) (sure q : Rule T B) (reader : Reader T B) (step : A → B → A) → Members class set one depth sure q reader

@@ -1,5 +1,5 @@
 -- The law of a rule with another value.
-use Rattle.std.proofs.Common.{◌≡◌, ℕ, ◌+◌, ◌<◌, ◌≤◌, List, [], ◌∷◌, ◌++◌, refl, sym, subst, ◌∙◌, ap}
+use Rattle.std.proofs.Common.{◌≡◌, ℕ, ◌+◌, List, ◌++◌, refl, sym, subst, ◌∙◌, ap}
 use Rattle.grammar_rules.specs.Rules.{Rule, mapped_to, TakesMapped}
 use Rattle.grammar_rules.specs.Rules.TakesMapped.{mapped}
 use Rattle.grammar_rules.specs.Readers.{Answer, Reader, after, read_nothing, read_mapped}

@@ -1,5 +1,5 @@
 -- From the result of a whole text to what its rule says.
-use Rattle.std.proofs.Common.{◌≡◌, ℕ, List, Result, Ok, Err, subst}
+use Rattle.std.proofs.Common.{ℕ, List, Result, Ok, Err, subst}
 use Rattle.az_text.specs.declared.token.Token.{Token}
 use Rattle.grammar_rules.specs.declared.fault.ReadError.{ReadError}
 use Rattle.grammar_rules.specs.declared.fault.ReadError.TheVariants.{Syntax, Size, Memory}

@@ -1,9 +1,9 @@
 -- The law of a rule that speaks of itself. Each turn through the rule spends a weight, so a reader at a
 -- level above the budget comes to its end before its level does.
-use Rattle.std.proofs.Common.{◌≡◌, ℕ, zero, suc, ◌+◌, ◌<◌, ◌≤◌, Bool, true, false, List, [], ◌∷◌, ◌++◌, arith, refl, zero-le}
+use Rattle.std.proofs.Common.{◌≡◌, ℕ, zero, suc, ◌<◌, List, [], ◌++◌, arith, refl, zero-le}
 use Rattle.grammar_rules.specs.Rules.{Rule, unentered, level, recursive, FrontOfNothing}
 use Rattle.grammar_rules.specs.Rules.FrontOfNothing.{only_empty}
-use Rattle.grammar_rules.specs.Readers.{Answer, Reader, sees, read_level}
+use Rattle.grammar_rules.specs.Readers.{Answer, Reader, read_level}
 use Rattle.grammar_rules.specs.Readers.Answer.{got, wrong, large}
 use Rattle.grammar_rules.specs.Exactness.{Shape, HasShape, Exact, Says, LeavesAtMost}
 use Rattle.grammar_rules.proofs.Leaves.{leaves_all}

@@ -1,6 +1,6 @@
 -- The law of a sequence. The second reader may use the first one's value, as long as what it answers is
 -- the value that the rule puts together.
-use Rattle.std.proofs.Common.{◌≡◌, ℕ, ◌+◌, ◌-◌, ◌<◌, ◌≤◌, Bool, true, false, ◌&&◌, if◌then◌else◌, List, [], ◌∷◌, ◌++◌, ◌⊎◌, inl, inr, length, arith, refl, sym, ◌∙◌, ap, subst, append_assoc, append-nil, add_assoc, add-zero, Option, Some, suc, nat_le}
+use Rattle.std.proofs.Common.{◌≡◌, ℕ, ◌+◌, ◌-◌, ◌<◌, ◌≤◌, Bool, true, false, ◌&&◌, if◌then◌else◌, List, [], ◌∷◌, ◌++◌, inl, inr, arith, refl, sym, ◌∙◌, ap, subst, append_assoc, append-nil, add_assoc, Option, suc, nat_le}
 use Rattle.std.proofs.lemmas.Bool.{leb-true}
 use Rattle.grammar_rules.specs.Rules.{Rule, token, sequence, TakesToken, mapped_to, TakesSequence, FrontOfSequence, TakesMapped}
 use Rattle.grammar_rules.specs.Rules.TakesToken.{this}
@@ -173,8 +173,8 @@ sequence_exceeds class one two f guard depth sure p sure' q first second parts b
     first_exceeds first second b (us ++ rest) (parts.exact.exceeds b us rest w in_depth t over)
 sequence_exceeds class one two f guard depth sure p sure' q first second parts b us rest w in_depth (of_rest {us = xs} {vs} {v} {w = y} {a} t u) over =
     elim (or_at_most v b) [
-      inl fits ↦ rest_exceeds class one two f guard depth sure p sure' q first second parts b xs vs rest v y a in_depth t u over fits
-    | inr under ↦ rw append_assoc (first_exceeds first second b (xs ++ (vs ++ rest)) (parts.exact.exceeds b xs (vs ++ rest) v in_depth (parts.exact.shaped.whole_front xs v a t) under))
+      | inl fits ↦ rest_exceeds class one two f guard depth sure p sure' q first second parts b xs vs rest v y a in_depth t u over fits
+      | inr under ↦ rw append_assoc (first_exceeds first second b (xs ++ (vs ++ rest)) (parts.exact.exceeds b xs (vs ++ rest) v in_depth (parts.exact.shaped.whole_front xs v a t) under))
     ]
 
 pub sequence_exact_of : {T A B C : Type 0} (class : T → ℕ) (one two : Shape) (f : A → B → C) (guard depth : ℕ) (sure p : Rule T A) (sure' q : Rule T B) (first : Reader T A) (second : A → Reader T C)

@@ -1,6 +1,6 @@
 -- The readers of sums follow their rules: a few lines for each rule.
-use Rattle.std.proofs.Common.{◌≡◌, ℕ, suc, ◌<◌, ◌==◌, ◌||◌, Bool, true, false, if◌then◌else◌, List, [], ◌∷◌, Option, Some, None, refl, ap, length, arith}
-use Rattle.az_text.specs.declared.mark.MarkKind.TheVariants.{OpenParen, CloseParen, Plus, Minus, Star}
+use Rattle.std.proofs.Common.{◌≡◌, ℕ, suc, ◌==◌, ◌||◌, true, false, if◌then◌else◌, List, [], ◌∷◌, Some, None, refl, ap, length, arith}
+use Rattle.az_text.specs.declared.mark.MarkKind.TheVariants.{OpenParen, CloseParen, Minus, Star}
 use Rattle.az_text.specs.declared.token.Token.{Token}
 use Rattle.az_text.specs.declared.token.TokenKind.{TokenKind}
 use Rattle.az_text.specs.declared.token.TokenKind.TheVariants.{Word, Number, Quoted, Mark}
@@ -9,7 +9,7 @@ use Rattle.grammar_rules.specs.declared.sums.Sign.TheVariants.{Add, Subtract}
 use Rattle.grammar_rules.specs.Rules.{Rule}
 use Rattle.grammar_rules.specs.Readers.{Reader, has, read_level}
 use Rattle.grammar_rules.specs.Readers.Answer.{wrong}
-use Rattle.grammar_rules.specs.Exactness.{Shape, Exact, IsWithin, token_shape, sequence_shape, choice_shape, many_shape}
+use Rattle.grammar_rules.specs.Exactness.{Shape, Exact, IsWithin}
 use Rattle.grammar_rules.specs.Tokens.{mark_class, kind_class, mark_of, number_of}
 use Rattle.grammar_rules.specs.Whole.{IsVerdict, verdict}
 use Rattle.grammar_rules.specs.Sums.{class, kind_sign, sign_of, signed, times, pair, behind_mark, before_mark, negated_behind, primary, unary, factor, product, term, sum_body, sum, read_primary, read_unary, read_factor, read_product, read_term, read_sum_body, read_sum}
@@ -25,8 +25,8 @@ use Rattle.grammar_rules.proofs.Tokens.{mark_within, number_within}
 sign_classes : (c : ℕ) (a : Sign) → (if c == 19 then Some Add else (if c == 20 then Some Subtract else None)) ≡ Some a → has (19 ∷ 20 ∷ []) c ≡ true
 sign_classes c a =
     elim (c == 19) as (λ x. (if x then Some Add else (if c == 20 then Some Subtract else None)) ≡ Some a → (x || (c == 20 || false)) ≡ true) [
-      true ↦ λ is. refl
-    | false ↦ elim (c == 20) as (λ y. (if y then Some Subtract else None) ≡ Some a → (y || false) ≡ true) [ true ↦ λ is. refl | false ↦ λ is. absurd (cc) ]
+      | true ↦ λ is. refl
+      | false ↦ elim (c == 20) as (λ y. (if y then Some Subtract else None) ≡ Some a → (y || false) ≡ true) [ true ↦ λ is. refl | false ↦ λ is. absurd (cc) ]
     ]
 
 kind_sign_within : (kind : TokenKind) (a : Sign) → kind_sign kind ≡ Some a → has (19 ∷ 20 ∷ []) (kind_class [] kind) ≡ true

@@ -1,16 +1,16 @@
 -- The laws of a token and of nothing.
-use Rattle.std.proofs.Common.{◌≡◌, ℕ, zero, ◌+◌, ◌-◌, ◌<◌, ◌≤◌, Bool, true, false, if◌then◌else◌, nat_le, List, [], ◌∷◌, ◌++◌, length, arith, refl, sym, ◌∙◌, subst, ap, Option, Some, None}
+use Rattle.std.proofs.Common.{◌≡◌, ℕ, ◌+◌, ◌-◌, ◌<◌, ◌≤◌, true, false, if◌then◌else◌, nat_le, List, [], ◌∷◌, ◌++◌, arith, refl, sym, subst, Option, Some, None}
 use Rattle.std.proofs.lemmas.Bool.{leb-true, le-leb}
 use Rattle.std.proofs.lemmas.Bool.Decides.{nat_tests}
-use Rattle.grammar_rules.specs.Rules.{Rule, token, give, TakesToken, FrontOfToken, TakesNothing, FrontOfNothing}
+use Rattle.grammar_rules.specs.Rules.{token, give, TakesToken, FrontOfToken, TakesNothing, FrontOfNothing}
 use Rattle.grammar_rules.specs.Rules.TakesToken.{this}
 use Rattle.grammar_rules.specs.Rules.FrontOfToken.{before, behind}
 use Rattle.grammar_rules.specs.Rules.TakesNothing.{nothing}
 use Rattle.grammar_rules.specs.Rules.FrontOfNothing.{only_empty}
-use Rattle.grammar_rules.specs.Readers.{Answer, Reader, sees, spend, spend_on, read_token, read_nothing}
-use Rattle.grammar_rules.specs.Readers.Answer.{got, wrong, large}
+use Rattle.grammar_rules.specs.Readers.{spend, spend_on, read_token, read_nothing}
+use Rattle.grammar_rules.specs.Readers.Answer.{got, large}
 use Rattle.grammar_rules.proofs.Leaves.{leaves_all}
-use Rattle.grammar_rules.specs.Exactness.{Shape, HasShape, Exact, Says, LeavesAtMost, BeginsIn, IsLight, IsWithin, token_shape, nothing_shape}
+use Rattle.grammar_rules.specs.Exactness.{HasShape, Exact, Says, LeavesAtMost, BeginsIn, IsLight, IsWithin, token_shape, nothing_shape}
 
 -- spending a weight
 pub spend_enough : {T A : Type 0} (w b : ℕ) (a : A) (rest : List T) → spend w a (w + b) rest ≡ got a rest b
@@ -26,8 +26,8 @@ spend_short w b a rest short =
 spend_says : {T A : Type 0} (value : T → Option A) (w b : ℕ) (t : T) (ts : List T) (a : A) → value t ≡ Some a → Says (token value w) b (t ∷ ts) (spend w a b ts)
 spend_says value w b t ts a is =
     elim (nat_le w b) as (λ x. nat_le w b ≡ x → Says (token value w) b (t ∷ ts) (if x then got a ts (b - w) else large)) [
-      true ↦ λ e. let enough : w ≤ b = leb-true w b e in (t ∷ [], w, refl, omega arith, this t a is)
-    | false ↦ λ e. (t ∷ [], ts, w, refl, grind (arith, nat_tests), behind t a is)
+      | true ↦ λ e. let enough : w ≤ b = leb-true w b e in (t ∷ [], w, refl, omega arith, this t a is)
+      | false ↦ λ e. (t ∷ [], ts, w, refl, grind (arith, nat_tests), behind t a is)
     ] refl
 
 value_says : {T A : Type 0} (value : T → Option A) (w b : ℕ) (t : T) (ts : List T) (v : Option A) → value t ≡ v → Says (token value w) b (t ∷ ts) (spend_on v w t b ts)

@@ -1,8 +1,6 @@
 -- The values of tokens stand in classes.
-use Rattle.std.proofs.Common.{◌≡◌, ℕ, suc, Bool, true, false, ◌==◌, ◌||◌, if◌then◌else◌, List, [], ◌∷◌, Option, Some, None, refl, sym, ap, subst}
-use Rattle.std.proofs.lemmas.Bool.{eqb-true}
+use Rattle.std.proofs.Common.{◌≡◌, ℕ, true, false, ◌==◌, ◌||◌, if◌then◌else◌, List, [], ◌∷◌, Some, None, refl}
 use Rattle.az_text.specs.declared.mark.MarkKind.{MarkKind}
-use Rattle.az_text.specs.declared.token.Token.{Token}
 use Rattle.az_text.specs.declared.token.TokenKind.{TokenKind}
 use Rattle.az_text.specs.declared.token.TokenKind.TheVariants.{Word, Number, Quoted, Mark}
 use Rattle.grammar_rules.specs.Readers.{has}

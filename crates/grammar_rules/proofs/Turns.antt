@@ -1,5 +1,5 @@
 -- How a loop over members goes: what is left to read gives the same answer.
-use Rattle.std.proofs.Common.{◌≡◌, ℕ, zero, suc, ◌+◌, ◌<◌, ◌≤◌, Bool, true, false, if◌then◌else◌, List, [], ◌∷◌, ◌++◌, length, arith, refl, sym, ◌∙◌, ap, subst, length-append}
+use Rattle.std.proofs.Common.{◌≡◌, ℕ, zero, suc, ◌<◌, ◌≤◌, Bool, true, false, if◌then◌else◌, List, [], ◌∷◌, ◌++◌, length, arith, refl, ◌∙◌, ap, subst, length-append}
 use Rattle.grammar_rules.specs.Rules.{Rule}
 use Rattle.grammar_rules.specs.Readers.{Answer, Reader, after, sees, read_turns, read_onto}
 use Rattle.grammar_rules.specs.Readers.Answer.{got, wrong, large}
@@ -38,9 +38,9 @@ turns_enough class set step reader forward (suc n) zero a b [] short short' = re
 turns_enough class set step reader forward (suc n) zero a b (t ∷ ts) short short' = absurd (omega arith)
 turns_enough class set step reader forward (suc n) (suc m) a b ts short short' =
     elim (sees class set ts) as (λ s. (if s then after (reader b ts) (λ x. read_turns class set step reader n (step a x)) else got a ts b) ≡ (if s then after (reader b ts) (λ x. read_turns class set step reader m (step a x)) else got a ts b)) [
-      true ↦ after_same (reader b ts) (λ x. read_turns class set step reader n (step a x)) (λ x. read_turns class set step reader m (step a x)) n
-        (λ x rest remaining is. let less = forward.advances b ts x rest remaining is in turns_enough class set step reader forward n m (step a x) remaining rest (omega arith) (omega arith))
-    | false ↦ refl
+      | true ↦ after_same (reader b ts) (λ x. read_turns class set step reader n (step a x)) (λ x. read_turns class set step reader m (step a x)) n
+          (λ x rest remaining is. let less = forward.advances b ts x rest remaining is in turns_enough class set step reader forward n m (step a x) remaining rest (omega arith) (omega arith))
+      | false ↦ refl
     ]
 
 -- the four ways of a turn

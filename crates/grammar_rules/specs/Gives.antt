@@ -1,6 +1,6 @@
 -- What a reading function returns, beside the answer of a reader on lists; want of memory may stand for
 -- any answer.
-use Rattle.std.specs.Prelude.{◌≡◌, ℕ, ◌<◌, List, [], length, Result, Ok, Err}
+use Rattle.std.specs.Prelude.{◌≡◌, ℕ, List, Result, Ok, Err}
 use Rattle.az_text.specs.declared.token.Token.{Token}
 use Rattle.grammar_rules.specs.declared.cursor.Cursor.{Cursor}
 use Rattle.grammar_rules.specs.declared.fault.ReadError.{ReadError}

@@ -1,6 +1,6 @@
 -- Readers as functions on token lists, one for each way of building a rule. A reader is given a budget
 -- of weight and the tokens, and decides by the next token alone, by sets that are written out.
-use Rattle.std.specs.Prelude.{ℕ, zero, suc, ◌+◌, ◌-◌, min, Bool, true, false, ◌||◌, ◌==◌, if◌then◌else◌, nat_le, List, [], ◌∷◌, length, Option, Some, None}
+use Rattle.std.specs.Prelude.{ℕ, zero, suc, ◌+◌, ◌-◌, min, Bool, false, ◌||◌, ◌==◌, if◌then◌else◌, nat_le, List, [], ◌∷◌, length, Option, Some, None}
 use Rattle.grammar_rules.specs.Rules.{single, put_last}
 
 -- what a reader answers: a value, with the tokens and the budget that are left; that the reading can't

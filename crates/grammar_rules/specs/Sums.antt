@@ -4,8 +4,8 @@
 --   unary   = "-" primary | primary
 --   primary = NUMBER | "(" sum ")"
 -- Each number, operator and opened parenthesis weighs 1. A mark that asks for nothing more weighs 0.
-use Rattle.std.specs.Prelude.{ℕ, ◌+◌, ◌-◌, ◌*◌, ◌%◌, ◌^◌, ◌==◌, if◌then◌else◌, List, [], ◌∷◌, Option, Some, None}
-use Rattle.az_text.specs.declared.mark.MarkKind.TheVariants.{OpenParen, CloseParen, Plus, Minus, Star}
+use Rattle.std.specs.Prelude.{ℕ, ◌+◌, ◌-◌, ◌*◌, ◌%◌, ◌^◌, ◌==◌, if◌then◌else◌, [], ◌∷◌, Option, Some, None}
+use Rattle.az_text.specs.declared.mark.MarkKind.TheVariants.{OpenParen, CloseParen, Minus, Star}
 use Rattle.az_text.specs.declared.token.Token.{Token}
 use Rattle.az_text.specs.declared.token.TokenKind.{TokenKind}
 use Rattle.az_text.specs.declared.token.TokenKind.TheVariants.{Word, Number, Quoted, Mark}

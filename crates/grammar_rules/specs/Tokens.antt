@@ -1,6 +1,6 @@
 -- The classes of tokens, and the values of tokens in a grammar with reserved words. The words are
 -- numbered in their order, behind the marks, numbers, quoted texts and names.
-use Rattle.std.specs.Prelude.{ℕ, suc, ◌+◌, Bool, ◌==◌, if◌then◌else◌, List, [], ◌∷◌, Option, Some, None, bytes_eq}
+use Rattle.std.specs.Prelude.{ℕ, suc, ◌==◌, if◌then◌else◌, List, [], ◌∷◌, Option, Some, None, bytes_eq}
 use Rattle.az_text.specs.declared.mark.MarkKind.{MarkKind}
 use Rattle.az_text.specs.declared.mark.MarkKind.TheVariants.{OpenBrace, CloseBrace, OpenBracket, CloseBracket, OpenParen, CloseParen, Bar, BarBar, Comma, Colon, Semicolon, Dot, Equal, EqualEqual, LessEqual, Less, GreaterEqual, Greater, AndAnd, Plus, Minus, Star, Arrow}
 use Rattle.az_text.specs.declared.token.Token.{Token}

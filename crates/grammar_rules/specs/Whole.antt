@@ -1,6 +1,6 @@
 -- What is answered for a whole text: its value, or the exact place of the first token that can't go on,
 -- or that it is too heavy.
-use Rattle.std.specs.Prelude.{◌≡◌, ℕ, ◌+◌, ◌<◌, ◌≤◌, List, [], ◌∷◌, ◌++◌, length}
+use Rattle.std.specs.Prelude.{◌≡◌, ℕ, ◌<◌, ◌≤◌, List, [], ◌∷◌, ◌++◌, length}
 use Rattle.grammar_rules.specs.Rules.{Rule}
 use Rattle.grammar_rules.specs.Readers.{Answer}
 use Rattle.grammar_rules.specs.Readers.Answer.{got, wrong, large}

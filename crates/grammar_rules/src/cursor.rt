@@ -52,7 +52,10 @@ impl<'a> Cursor<'a> {
         ensures rest { result.rest.now ≡ tokens.now }
         ensures budget { result.budget ≡ budget }
     {
-        Cursor { rest: tokens, budget }
+        Cursor {
+            rest: tokens,
+            budget,
+        }
     }
 
     /// The syntax error at this place.
@@ -67,7 +70,10 @@ impl<'a> Cursor<'a> {
         ensures { Passes result (spend weight tt self.entry.budget rest.now) }
     {
         if weight <= self.budget {
-            Ok(Cursor { rest, budget: self.budget - weight })
+            Ok(Cursor {
+                rest,
+                budget: self.budget - weight,
+            })
         } else {
             Err(ReadError::Size)
         }
@@ -78,7 +84,15 @@ impl<'a> Cursor<'a> {
         ensures { Passes result (read_token (mark_of mark) weight self.entry.budget self.entry.rest.now) }
     {
         match self.rest.split_first() {
-            Some((Token { kind: TokenKind::Mark(kind), .. }, rest)) if mark_number(*kind) == mark_number(mark) => self.past(weight, rest),
+            Some(
+                (
+                    Token {
+                        kind: TokenKind::Mark(kind),
+                        ..
+                    },
+                    rest,
+                ),
+            ) if mark_number(*kind) == mark_number(mark) => self.past(weight, rest),
             _ => Err(self.misplaced()),
         }
     }
@@ -88,7 +102,15 @@ impl<'a> Cursor<'a> {
         ensures { Gives result (read_token number_of weight self.entry.budget self.entry.rest.now) }
     {
         match self.rest.split_first() {
-            Some((Token { kind: TokenKind::Number(number), .. }, rest)) => Ok((*number, self.past(weight, rest)?)),
+            Some(
+                (
+                    Token {
+                        kind: TokenKind::Number(number),
+                        ..
+                    },
+                    rest,
+                ),
+            ) => Ok((*number, self.past(weight, rest)?)),
             _ => Err(self.misplaced()),
         }
     }

@@ -16,4 +16,3 @@ pub use cursor::Cursor;
 pub use ending::finish;
 pub use fault::ReadError;
 pub use sums::{Sign, read_sum};
-

@@ -17,33 +17,73 @@ pub enum Sign {
 fn sees_number(cursor: Cursor<'_>) -> bool
     ensures { result ≡ sees class (23 ∷ []) cursor.entry.rest.now }
 {
-    matches!(cursor.rest.first(), Some(Token { kind: TokenKind::Number(_), .. }))
+    matches!(
+        cursor.rest.first(),
+        Some(Token {
+            kind: TokenKind::Number(_),
+            ..
+        })
+    )
 }
 
 fn sees_minus(cursor: Cursor<'_>) -> bool
     ensures { result ≡ sees class (20 ∷ []) cursor.entry.rest.now }
 {
-    matches!(cursor.rest.first(), Some(Token { kind: TokenKind::Mark(MarkKind::Minus), .. }))
+    matches!(
+        cursor.rest.first(),
+        Some(Token {
+            kind: TokenKind::Mark(MarkKind::Minus),
+            ..
+        })
+    )
 }
 
 fn sees_star(cursor: Cursor<'_>) -> bool
     ensures { result ≡ sees class (21 ∷ []) cursor.entry.rest.now }
 {
-    matches!(cursor.rest.first(), Some(Token { kind: TokenKind::Mark(MarkKind::Star), .. }))
+    matches!(
+        cursor.rest.first(),
+        Some(Token {
+            kind: TokenKind::Mark(MarkKind::Star),
+            ..
+        })
+    )
 }
 
 fn sees_sign(cursor: Cursor<'_>) -> bool
     ensures { result ≡ sees class (19 ∷ 20 ∷ []) cursor.entry.rest.now }
 {
-    matches!(cursor.rest.first(), Some(Token { kind: TokenKind::Mark(MarkKind::Plus | MarkKind::Minus), .. }))
+    matches!(
+        cursor.rest.first(),
+        Some(Token {
+            kind: TokenKind::Mark(MarkKind::Plus | MarkKind::Minus),
+            ..
+        })
+    )
 }
 
 fn take_sign(cursor: Cursor<'_>) -> Result<(Sign, Cursor<'_>), ReadError>
     ensures { Gives result (read_token sign_of 1 cursor.entry.budget cursor.entry.rest.now) }
 {
     match cursor.rest.split_first() {
-        Some((Token { kind: TokenKind::Mark(MarkKind::Plus), .. }, rest)) => Ok((Sign::Add, cursor.past(1, rest)?)),
-        Some((Token { kind: TokenKind::Mark(MarkKind::Minus), .. }, rest)) => Ok((Sign::Subtract, cursor.past(1, rest)?)),
+        Some(
+            (
+                Token {
+                    kind: TokenKind::Mark(MarkKind::Plus),
+                    ..
+                },
+                rest,
+            ),
+        ) => Ok((Sign::Add, cursor.past(1, rest)?)),
+        Some(
+            (
+                Token {
+                    kind: TokenKind::Mark(MarkKind::Minus),
+                    ..
+                },
+                rest,
+            ),
+        ) => Ok((Sign::Subtract, cursor.past(1, rest)?)),
         _ => Err(cursor.misplaced()),
     }
 }

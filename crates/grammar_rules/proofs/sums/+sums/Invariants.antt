@@ -1,4 +1,4 @@
-use Rattle.std.proofs.Common.{◌≡◌, ℕ, ◌+◌, ◌*◌, ◌-◌, [], ◌∷◌, length}
+use Rattle.std.proofs.Common.{◌≡◌, ◌+◌, ◌*◌, [], ◌∷◌, length}
 use Rattle.grammar_rules.specs.Readers.{read_onto}
 use Rattle.grammar_rules.specs.Sums.{class, signed, times, read_sum, read_term, read_factor}
 use Rattle.grammar_rules.proofs.sums.+sums.Given as goal

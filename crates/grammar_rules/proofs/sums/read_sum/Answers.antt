@@ -13,5 +13,5 @@ returns c =
     subst (λ (n : ℕ). IsReadBy sum n c.args.tokens.now c.finish.result) c.new.ensures.budget
     (subst (λ (ts : List Token). IsReadBy sum c.new.result.budget ts c.finish.result) c.new.ensures.rest
     (read_by sum c.new.result.budget c.new.result.rest.now (verdict (read_sum (c.from.result + 1) c.new.result.budget c.new.result.rest.now)) c.finish.result
-      (sum_verdict c.new.result.budget (c.from.result + 1) c.new.result.rest.now deep)
-      (c.finish.ensures (read_sum (c.from.result + 1) c.new.result.budget c.new.result.rest.now) c.sum.ensures)))
+    (sum_verdict c.new.result.budget (c.from.result + 1) c.new.result.rest.now deep)
+    (c.finish.ensures (read_sum (c.from.result + 1) c.new.result.budget c.new.result.rest.now) c.sum.ensures)))

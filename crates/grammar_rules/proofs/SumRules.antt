@@ -1,6 +1,6 @@
 -- The readers of sums follow their rules: a few lines for each rule.
-use Rattle.std.proofs.Common.{◌≡◌, ℕ, suc, ◌==◌, ◌||◌, true, false, if◌then◌else◌, List, [], ◌∷◌, Some, None, refl, ap, length, arith}
-use Rattle.az_text.specs.declared.mark.MarkKind.TheVariants.{OpenParen, CloseParen, Minus, Star}
+use Rattle.std.proofs.Common.{◌≡◌, ℕ, suc, ◌==◌, ◌||◌, true, false, if◌then◌else◌, List, [], ◌∷◌, Some, None, refl, ap, length, arith, ◌+◌, ◌<◌}
+use Rattle.az_text.specs.declared.mark.MarkKind.TheVariants.{OpenParen, CloseParen, Minus, Star, Semicolon}
 use Rattle.az_text.specs.declared.token.Token.{Token}
 use Rattle.az_text.specs.declared.token.TokenKind.{TokenKind}
 use Rattle.az_text.specs.declared.token.TokenKind.TheVariants.{Word, Number, Quoted, Mark}
@@ -12,11 +12,12 @@ use Rattle.grammar_rules.specs.Readers.Answer.{wrong}
 use Rattle.grammar_rules.specs.Exactness.{Shape, Exact, IsWithin}
 use Rattle.grammar_rules.specs.Tokens.{mark_class, kind_class, mark_of, number_of}
 use Rattle.grammar_rules.specs.Whole.{IsVerdict, verdict}
-use Rattle.grammar_rules.specs.Sums.{class, kind_sign, sign_of, signed, times, pair, behind_mark, before_mark, negated_behind, primary, unary, factor, product, term, sum_body, sum, read_primary, read_unary, read_factor, read_product, read_term, read_sum_body, read_sum}
+use Rattle.grammar_rules.specs.Sums.{class, kind_sign, sign_of, signed, times, pair, behind_mark, before_mark, negated_behind, primary, unary, factor, product, term, sum_body, sum, read_primary, read_unary, read_factor, read_product, read_term, read_sum_body, read_sum, line, lines, read_line, read_lines, LinesAreRead}
 use Rattle.grammar_rules.proofs.Token.{token_exact}
 use Rattle.grammar_rules.proofs.Sequence.{sequence_exact, guarded_exact}
 use Rattle.grammar_rules.proofs.Choice.{choice_exact}
-use Rattle.grammar_rules.proofs.Many.{left_exact}
+use Rattle.grammar_rules.proofs.Fresh.{fresh_exact}
+use Rattle.grammar_rules.proofs.Many.{left_exact, many_exact}
 use Rattle.grammar_rules.proofs.Recursive.{recursive_exact}
 use Rattle.grammar_rules.proofs.Turns.{Advances, exact_advances}
 use Rattle.grammar_rules.proofs.Whole.{verdict_exact}
@@ -107,3 +108,19 @@ at_ground b ts = refl
 pub deeper : (depth below b : ℕ) (ts : List Token) → depth ≡ suc below → read_sum depth b ts ≡ read_sum_body (read_sum below) b ts
 unfolding read_sum
 deeper depth below b ts is = ap (λ (n : ℕ). read_level read_sum_body n b ts) is
+
+-- lines, each with a limit of its own
+abbrev line_shape : Shape
+line_shape = record { first = 20 ∷ 23 ∷ 4 ∷ []; empty = false; more = [] }
+
+abbrev lines_shape : Shape
+lines_shape = record { first = 20 ∷ 23 ∷ 4 ∷ []; empty = true; more = 20 ∷ 23 ∷ 4 ∷ [] }
+
+line_exact : (depth : ℕ) → Exact class line_shape depth line line (read_line depth)
+line_exact depth = sequence_exact before_mark (sum_exact depth) (token_exact class (10 ∷ []) (mark_of Semicolon) 0 (mark_within [] Semicolon) depth) refl
+
+lines_exact : (limit : ℕ) → Exact class lines_shape 1 (lines limit) (lines limit) (read_lines limit)
+lines_exact limit = many_exact (20 ∷ 23 ∷ 4 ∷ []) (fresh_exact limit 1 (line_exact (1 + limit))) refl refl refl
+
+pub lines_are_read : LinesAreRead
+lines_are_read limit ts = verdict_exact (lines_exact limit) 0 ts (omega arith)

@@ -4,15 +4,16 @@
 --   unary   = "-" primary | primary
 --   primary = NUMBER | "(" sum ")"
 -- Each number, operator and opened parenthesis weighs 1. A mark that asks for nothing more weighs 0.
-use Rattle.std.specs.Prelude.{ℕ, ◌+◌, ◌-◌, ◌*◌, ◌%◌, ◌^◌, ◌==◌, if◌then◌else◌, [], ◌∷◌, Option, Some, None}
-use Rattle.az_text.specs.declared.mark.MarkKind.TheVariants.{OpenParen, CloseParen, Minus, Star}
+use Rattle.std.specs.Prelude.{ℕ, ◌+◌, ◌-◌, ◌*◌, ◌%◌, ◌^◌, ◌==◌, if◌then◌else◌, List, [], ◌∷◌, Option, Some, None}
+use Rattle.az_text.specs.declared.mark.MarkKind.TheVariants.{OpenParen, CloseParen, Semicolon, Minus, Star}
 use Rattle.az_text.specs.declared.token.Token.{Token}
 use Rattle.az_text.specs.declared.token.TokenKind.{TokenKind}
 use Rattle.az_text.specs.declared.token.TokenKind.TheVariants.{Word, Number, Quoted, Mark}
 use Rattle.grammar_rules.specs.declared.sums.Sign.{Sign}
 use Rattle.grammar_rules.specs.declared.sums.Sign.TheVariants.{Add, Subtract}
-use Rattle.grammar_rules.specs.Rules.{Rule, token, sequence, choice, left, recursive}
-use Rattle.grammar_rules.specs.Readers.{Reader, read_token, read_sequence, read_choice, read_left, read_level}
+use Rattle.grammar_rules.specs.Rules.{Rule, token, sequence, choice, left, many, fresh, recursive}
+use Rattle.grammar_rules.specs.Readers.{Reader, read_token, read_sequence, read_choice, read_left, read_many, read_fresh, read_level}
+use Rattle.grammar_rules.specs.Whole.{IsVerdict, verdict}
 use Rattle.grammar_rules.specs.Tokens.{mark_class, class_of, mark_of, number_of}
 
 abbrev pub class : Token → ℕ
@@ -93,3 +94,21 @@ read_sum_body sum = read_left class (19 ∷ 20 ∷ []) signed (read_product sum)
 
 unfoldable pub read_sum : ℕ → Reader Token ℕ
 read_sum = read_level read_sum_body
+
+-- Lines of sums, each with a limit of its own: what a line weighs below the limit counts nowhere else.
+--   lines = { sum ";" }
+abbrev pub line : Rule Token ℕ
+line = sequence before_mark sum (token (mark_of Semicolon) 0)
+
+abbrev pub lines : ℕ → Rule Token (List ℕ)
+lines limit = many (fresh limit line)
+
+abbrev pub read_line : ℕ → Reader Token ℕ
+read_line depth = read_sequence before_mark (read_sum depth) (read_token (mark_of Semicolon) 0)
+
+abbrev pub read_lines : ℕ → Reader Token (List ℕ)
+read_lines limit = read_many class (20 ∷ 23 ∷ 4 ∷ []) (read_fresh limit (read_line (1 + limit)))
+
+-- Lines are read exactly, with no weight above the limit of a line.
+abbrev pub LinesAreRead : Type 0
+LinesAreRead = (limit : ℕ) (ts : List Token) → IsVerdict (lines limit) 0 ts (verdict (read_lines limit 0 ts))

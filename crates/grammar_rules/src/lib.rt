@@ -8,6 +8,7 @@
 mod cursor;
 mod ending;
 mod fault;
+mod laws;
 mod sums;
 #[cfg(test)]
 mod tests;
@@ -15,4 +16,5 @@ mod tests;
 pub use cursor::Cursor;
 pub use ending::finish;
 pub use fault::ReadError;
+pub use laws::lines_are_read;
 pub use sums::{Sign, read_sum};

@@ -1,5 +1,5 @@
 -- The readers of sums follow their rules: a few lines for each rule.
-use Rattle.std.proofs.Common.{◌≡◌, ℕ, suc, ◌==◌, ◌||◌, true, false, if◌then◌else◌, List, [], ◌∷◌, Some, None, refl, ap, length, arith, ◌+◌, ◌<◌}
+use Rattle.std.proofs.Common.{◌≡◌, ℕ, suc, ◌==◌, ◌||◌, true, false, if◌then◌else◌, List, [], ◌∷◌, Some, None, refl, ap, length, arith, ◌+◌}
 use Rattle.az_text.specs.declared.mark.MarkKind.TheVariants.{OpenParen, CloseParen, Minus, Star, Semicolon}
 use Rattle.az_text.specs.declared.token.Token.{Token}
 use Rattle.az_text.specs.declared.token.TokenKind.{TokenKind}

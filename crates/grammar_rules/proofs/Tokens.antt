@@ -1,5 +1,5 @@
 -- The values of tokens stand in classes.
-use Rattle.std.proofs.Common.{◌≡◌, ℕ, true, false, ◌==◌, ◌||◌, if◌then◌else◌, List, [], ◌∷◌, Some, None, refl, suc, ◌≤◌, ◌<◌, ◌&&◌, bytes_eq, nat_lt, le_refl, arith, sym, subst, Bool, Option}
+use Rattle.std.proofs.Common.{◌≡◌, ℕ, true, false, ◌==◌, ◌||◌, if◌then◌else◌, List, [], ◌∷◌, Some, None, refl, suc, ◌≤◌, ◌<◌, ◌&&◌, bytes_eq, nat_lt, le_refl, arith, sym, subst, Bool}
 use Rattle.std.proofs.lemmas.Bool.{eqb-true, eq-eqb, ltb-true}
 use Rattle.std.proofs.lemmas.Slice.Eq.{bytes_eq-Decides}
 use Rattle.az_text.specs.declared.mark.MarkKind.{MarkKind}
@@ -57,8 +57,8 @@ words_high : (words : List (List ℕ)) (n : ℕ) (word : List ℕ) → 25 ≤ n 
 words_high [] n word high = le_refl 25
 words_high (w ∷ ws) n word high =
     elim (bytes_eq word w) as (λ b. 25 ≤ (if b then n else word_class ws (suc n) word)) [
-      true ↦ high
-    | false ↦ words_high ws (suc n) word (omega arith)
+      | true ↦ high
+      | false ↦ words_high ws (suc n) word (omega arith)
     ]
 
 pub word_is_high : (words : List (List ℕ)) (word : List ℕ) → 25 ≤ word_class words 26 word
@@ -82,8 +82,8 @@ no_word_in [] c low high = refl
 no_word_in (x ∷ xs) c low high =
     let below : x < 25 = ltb-true x 25 (low_first (nat_lt x 25) (is_low xs) low) in
     elim (c == x) as (λ b. c == x ≡ b → (b || has xs c) ≡ false) [
-      true ↦ λ e. let same : c ≡ x = eqb-true c x e in absurd (omega arith)
-    | false ↦ λ e. no_word_in xs c (low_rest (nat_lt x 25) (is_low xs) low) high
+      | true ↦ λ e. let same : c ≡ x = eqb-true c x e in absurd (omega arith)
+      | false ↦ λ e. no_word_in xs c (low_rest (nat_lt x 25) (is_low xs) low) high
     ] refl
 
 -- a reserved word stands in its class
@@ -95,8 +95,8 @@ keyword_alone words keyword word is =
 kind_keyword_within : (words : List (List ℕ)) (keyword : List ℕ) (kind : TokenKind) (a : Unit {0}) → kind_keyword keyword kind ≡ Some a → has (word_class words 26 keyword ∷ []) (kind_class words kind) ≡ true
 kind_keyword_within words keyword (Word word) a =
     elim (bytes_eq word keyword) as (λ b. bytes_eq word keyword ≡ b → (if b then Some tt else None) ≡ Some a → has (word_class words 26 keyword ∷ []) (word_class words 26 word) ≡ true) [
-      true ↦ λ e is. keyword_alone words keyword word ((bytes_eq-Decides word keyword).0 e)
-    | false ↦ λ e is. absurd (cc)
+      | true ↦ λ e is. keyword_alone words keyword word ((bytes_eq-Decides word keyword).0 e)
+      | false ↦ λ e is. absurd (cc)
     ] refl
 kind_keyword_within words keyword (Number n) a = λ is. absurd (cc)
 kind_keyword_within words keyword (Quoted text) a = λ is. absurd (cc)

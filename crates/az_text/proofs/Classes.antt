@@ -1,12 +1,10 @@
 -- The classes of bytes: which exclude each other, and that their bytes are ASCII.
-use Rattle.std.proofs.Common.{◌≡◌, ℕ, suc, ◌+◌, ◌<◌, ◌≤◌, Bool, true, false, cond, List, [], ◌∷◌, take, length, get_or, refl, sym, ap, ◌∙◌, subst, arith}
+use Rattle.std.proofs.Common.{◌≡◌, ℕ, ◌<◌, Bool, true, List, [], ◌∷◌, take, arith}
 use Rattle.std.proofs.lemmas.Bool.Decides.{nat_tests}
 use Rattle.std.proofs.lemmas.Str.Ascii.{IsAscii-nil, IsAscii-cons}
-use Rattle.std.proofs.Math.Numerals.{one-add}
-use Rattle.std.specs.Char.{is_ascii_alphabetic, is_ascii_digit}
 use Rattle.std.specs.List.{prefix_len}
 use Rattle.std.specs.Str.{IsAscii}
-use Rattle.az_text.specs.Tokens.{is_blank, is_word_byte, is_inner, AllAre}
+use Rattle.az_text.specs.Tokens.{is_word_byte, is_inner, AllAre}
 use Rattle.az_text.proofs.Runs.{run_passes}
 
 pub word_byte_ascii : (b : ℕ) → is_word_byte b ≡ true → b < 128

@@ -1,5 +1,5 @@
 -- Spelling a token, and then something at which it ends, begins with that token.
-use Rattle.std.proofs.Common.{◌≡◌, ℕ, suc, ◌+◌, ◌<◌, ◌≤◌, Bool, true, false, cond, List, [], ◌∷◌, ◌++◌, length, Option, Some, None, refl, sym, ap, ◌∙◌, subst, arith, append_assoc, length-append}
+use Rattle.std.proofs.Common.{◌≡◌, ℕ, ◌≤◌, List, [], ◌∷◌, ◌++◌, length, Some, None, refl, sym, ap, ◌∙◌, arith, append_assoc}
 use Rattle.std.proofs.lemmas.List.{append_cancel_right}
 use Rattle.std.specs.Char.{is_ascii_digit}
 use Rattle.az_text.specs.declared.mark.MarkKind.{MarkKind}
@@ -7,7 +7,7 @@ use Rattle.az_text.specs.declared.token.TokenKind.{TokenKind}
 use Rattle.az_text.specs.declared.token.TokenKind.TheVariants.{Word, Number, Quoted, Mark}
 use Rattle.az_text.specs.Fronts.{lookup_two, double_marks}
 use Rattle.az_text.specs.Pieces.{goes_on, EndsAt, SpelledTokenIsCut}
-use Rattle.az_text.specs.Tokens.{is_word_byte, is_inner, AllAre, IsWord, IsNumber, quoted, mark_spelling, Spells, BeginsWith}
+use Rattle.az_text.specs.Tokens.{is_word_byte, is_inner, AllAre, IsWord, IsNumber, quoted, mark_spelling, Spells}
 use Rattle.az_text.proofs.Marks.{mark_of, mark_of-spelling, mark_spelling_injective, length-mark_spelling, no_double_after}
 use Rattle.az_text.proofs.Runs.{Stops, run_longest, run_only}
 use Rattle.az_text.proofs.Sorts.{sort, same_sort, word_byte_from_alphabetic}

@@ -1,6 +1,6 @@
 -- One turn of the lexer's loop: what the text begins with at the place `at`, and the answer further on.
-use Rattle.std.proofs.Common.{◌≡◌, ℕ, zero, suc, ◌+◌, ◌-◌, ◌<◌, ◌≤◌, List, [], ◌∷◌, ◌++◌, take, drop, get_or, length, Result, Ok, Err, refl, sym, ap, ◌∙◌, subst, arith, append_assoc, length-append, length-drop, length-take-le, take-append-drop}
-use Rattle.std.proofs.lemmas.List.{drop_more, drop_all, drop-drop, take_rest, append-nil}
+use Rattle.std.proofs.Common.{◌≡◌, ℕ, zero, suc, ◌+◌, ◌-◌, ◌<◌, ◌≤◌, List, [], ◌∷◌, ◌++◌, take, drop, length, Result, Ok, Err, refl, sym, ap, ◌∙◌, subst, arith, append_assoc, length-append, length-drop, length-take-le, take-append-drop}
+use Rattle.std.proofs.lemmas.List.{drop_all, drop-drop, take_rest, append-nil}
 use Rattle.az_text.specs.declared.fault.LexFault.{LexFault}
 use Rattle.az_text.specs.declared.fault.LexFault.TheVariants.{BadByte, WideNumber}
 use Rattle.az_text.specs.declared.front.Front.{Front}

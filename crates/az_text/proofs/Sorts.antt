@@ -1,12 +1,12 @@
 -- The first byte of a token says of which sort it is.
-use Rattle.std.proofs.Common.{◌≡◌, ℕ, suc, ◌+◌, ◌<◌, ◌≤◌, Bool, true, false, cond, not, ◌&&◌, eqb, List, [], ◌∷◌, ◌++◌, drop, length, refl, sym, ap, ◌∙◌, subst, arith}
+use Rattle.std.proofs.Common.{◌≡◌, ℕ, Bool, true, cond, not, ◌&&◌, eqb, List, [], ◌∷◌, ◌++◌, drop, refl, sym, ap, ◌∙◌, subst, arith}
 use Rattle.std.proofs.lemmas.Bool.Decides.{nat_tests}
 use Rattle.std.specs.Char.{is_ascii_alphabetic, is_ascii_digit}
 use Rattle.az_text.specs.declared.mark.MarkKind.{MarkKind}
 use Rattle.az_text.specs.declared.mark.MarkKind.TheVariants.{OpenBrace}
 use Rattle.az_text.specs.declared.token.TokenKind.{TokenKind}
 use Rattle.az_text.specs.declared.token.TokenKind.TheVariants.{Word, Number, Quoted, Mark}
-use Rattle.az_text.specs.Tokens.{is_blank, is_word_byte, AllAre, IsWord, IsNumber, quoted, mark_spelling, Spells}
+use Rattle.az_text.specs.Tokens.{is_blank, is_word_byte, IsWord, IsNumber, mark_spelling, Spells}
 use Rattle.az_text.proofs.Marks.{first_of}
 
 abbrev pub sort_of : ℕ → ℕ

@@ -1,5 +1,5 @@
 -- What `front_of` gives is what the text begins with.
-use Rattle.std.proofs.Common.{◌≡◌, ℕ, zero, suc, ◌+◌, ◌-◌, ◌^◌, ◌<◌, ◌≤◌, Bool, true, false, cond, eqb, ltb, List, [], ◌∷◌, ◌++◌, take, drop, get_or, length, Option, Some, None, refl, sym, ap, ◌∙◌, subst, arith, append_assoc, take-append-drop, length-take-le, ⊎_elim}
+use Rattle.std.proofs.Common.{◌≡◌, ℕ, suc, ◌+◌, ◌^◌, ◌<◌, ◌≤◌, Bool, true, false, cond, eqb, ltb, List, [], ◌∷◌, ◌++◌, take, drop, get_or, length, Option, Some, None, refl, sym, ap, ◌∙◌, subst, arith, append_assoc, take-append-drop, length-take-le, ⊎_elim}
 use Rattle.std.proofs.lemmas.Bool.Decides.{nat_tests}
 use Rattle.std.proofs.lemmas.Bool.{eqb-true, eqb-false, ltb-true, ltb-false, cond-true, cond-false, cases_lt}
 use Rattle.std.proofs.lemmas.List.{drop_more, get_or_at, get_or_past, length_push}
@@ -16,11 +16,11 @@ use Rattle.az_text.specs.declared.token.TokenKind.TheVariants.{Word, Number, Quo
 use Rattle.az_text.specs.Fronts.{lookup, lookup_two, single_marks, double_marks, mark_or_nothing, single_front, mark_front, word_front, number_front, value_below, number_or_wide, quoted_front, comment_front, front_of}
 use Rattle.az_text.specs.Pieces.{EndsAt}
 use Rattle.az_text.specs.Reading.{IsNarrow}
-use Rattle.az_text.specs.Tokens.{is_blank, is_word_byte, is_inner, is_before_line_feed, AllAre, EndsComment, IsWord, IsNumber, quoted, Spells, BeginsWith, NothingBegins}
-use Rattle.az_text.proofs.Longest.{spelled_token_is_cut, quoted_only, NoDouble, single_longest, double_longest}
+use Rattle.az_text.specs.Tokens.{is_blank, is_word_byte, is_inner, is_before_line_feed, AllAre, EndsComment, quoted, Spells, BeginsWith, NothingBegins}
+use Rattle.az_text.proofs.Longest.{spelled_token_is_cut, NoDouble, single_longest, double_longest}
 use Rattle.az_text.proofs.Marks.{mark_of, mark_of-spelling, single_spelled, double_spelled}
 use Rattle.az_text.proofs.Runs.{Stops, run_passes, run_stops, run_only}
-use Rattle.az_text.proofs.Sorts.{sort_of, is_solid, sort, Starts, starts, same_sort}
+use Rattle.az_text.proofs.Sorts.{sort_of, is_solid, sort, starts, same_sort}
 
 -- the text begins so
 pub data Sound : List ℕ → Front → Type 0 where

@@ -1,5 +1,5 @@
 -- How the answer of a text goes on after its first token, blank or comment.
-use Rattle.std.proofs.Common.{◌≡◌, ℕ, zero, suc, ◌+◌, ◌-◌, ◌^◌, ◌<◌, ◌≤◌, List, [], ◌∷◌, ◌++◌, take, drop, length, Result, Ok, Err, refl, sym, ap, ◌∙◌, subst, arith, add-zero, length-append}
+use Rattle.std.proofs.Common.{◌≡◌, ℕ, zero, suc, ◌+◌, ◌-◌, ◌^◌, ◌≤◌, List, [], ◌∷◌, ◌++◌, drop, length, Result, Ok, Err, refl, sym, ap, ◌∙◌, subst, arith, add-zero, length-append}
 use Rattle.az_text.specs.declared.fault.LexFault.{LexFault}
 use Rattle.az_text.specs.declared.fault.LexFault.TheVariants.{BadByte, WideNumber}
 use Rattle.az_text.specs.declared.front.Front.{Front}

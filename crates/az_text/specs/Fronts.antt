@@ -1,6 +1,6 @@
 -- What a text begins with, computed from its first bytes, and so the answer of a whole text.
 -- The laws in `proofs/` say that these are the tokens of `Tokens.antt` and the readings of `Reading.antt`.
-use Rattle.std.specs.Prelude.{◌≡◌, ℕ, zero, suc, ◌+◌, ◌-◌, ◌^◌, Bool, if◌then◌else◌, ◌==◌, nat_lt, List, [], ◌∷◌, take, slice_index, Option, Some, None, Result, Ok, Err}
+use Rattle.std.specs.Prelude.{◌≡◌, ℕ, zero, suc, ◌+◌, ◌-◌, ◌^◌, if◌then◌else◌, ◌==◌, nat_lt, List, [], ◌∷◌, take, slice_index, Option, Some, None, Result, Ok, Err}
 use Rattle.std.specs.Char.{is_ascii_alphabetic, is_ascii_digit}
 use Rattle.std.specs.List.{prefix_len}
 use Rattle.std.specs.Str.Parse.{digits_value}
@@ -11,7 +11,6 @@ use Rattle.az_text.specs.declared.front.Front.TheVariants.{Between, Cut, Wide, N
 use Rattle.az_text.specs.declared.mark.MarkKind.{MarkKind}
 use Rattle.az_text.specs.declared.mark.MarkKind.TheVariants.{OpenBrace, CloseBrace, OpenBracket, CloseBracket, OpenParen, CloseParen, Bar, BarBar, Comma, Colon, Semicolon, Dot, Equal, EqualEqual, LessEqual, Less, GreaterEqual, Greater, AndAnd, Plus, Minus, Star, Arrow}
 use Rattle.az_text.specs.declared.token.Token.{Token}
-use Rattle.az_text.specs.declared.token.TokenKind.{TokenKind}
 use Rattle.az_text.specs.declared.token.TokenKind.TheVariants.{Word, Number, Quoted, Mark}
 use Rattle.az_text.specs.Tokens.{is_blank, is_word_byte, is_inner, is_before_line_feed}
 use Rattle.az_text.specs.Reading.{and_then, token_at, Reads}

@@ -105,11 +105,13 @@ fn value_of(digits: &[u8]) -> Option<u128>
 {
     let mut value: u128 = 0;
     for digit in digits {
-        let digit = u128::from(*digit - b'0');
-        if value > (MOST - digit) / 10 {
+        if value > MOST / 10 {
             return None;
         }
-        value = 10 * value + digit;
+        value = 10 * value + u128::from(*digit - b'0');
+        if value > MOST {
+            return None;
+        }
     }
     Some(value)
 }

@@ -1,6 +1,3 @@
-use Rattle.std.proofs.Common.{◌≡◌, sym, ◌∙◌}
-use Rattle.az_text.specs.Fronts.{lexed}
-use Rattle.az_text.proofs.Walk.{reads_lexed, lexed_only}
 use Rattle.az_text.proofs.Given.{answers_read, answers_only, answers_in}
 use Rattle.az_text.proofs.lexer.lex.Goals as goal
 

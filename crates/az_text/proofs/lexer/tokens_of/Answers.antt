@@ -1,8 +1,6 @@
-use Rattle.std.proofs.Common.{◌≡◌, ◌+◌, ◌<◌, ◌≤◌, ◌^◌, [], ◌∷◌, ◌++◌, length, drop, Ok, Err, is_ok, sym, ap, ◌∙◌, subst, arith}
+use Rattle.std.proofs.Common.{◌≡◌, ◌+◌, ◌<◌, ◌≤◌, [], ◌∷◌, ◌++◌, length, drop, Ok, is_ok, sym, ap, ◌∙◌, arith}
 use Rattle.std.proofs.ResultArms.{chosen}
-use Rattle.az_text.specs.declared.fault.LexFault.TheVariants.{BadByte, WideNumber}
-use Rattle.az_text.specs.declared.front.Front.TheVariants.{Between, Cut, Wide, Nothing}
-use Rattle.az_text.specs.Fronts.{lexed, lexed_from, front_of}
+use Rattle.az_text.specs.Fronts.{lexed, lexed_from}
 use Rattle.az_text.specs.Reading.{token_at}
 use Rattle.az_text.proofs.Loop.{between_on, cut_on, wide_here, nothing_here, lexed-past_end, and_all-end}
 use Rattle.az_text.proofs.Walk.{and_all}

@@ -1,0 +1,14 @@
+pub mod LookAhead
+pub mod Leaves
+pub mod Token
+pub mod Mapped
+pub mod Sequence
+pub mod Choice
+pub mod Many
+pub mod Fresh
+pub mod Recursive
+pub mod Whole
+pub mod Tokens
+pub mod SumRules
+pub mod Turns
+pub mod ReadBy

@@ -1,0 +1,40 @@
+-- What a reading function returns, beside the answer of a reader on lists; want of memory may stand for
+-- any answer.
+use Rattle.std.specs.Prelude.{◌≡◌, ℕ, List, Result, Ok, Err}
+use Rattle.az_text.specs.declared.token.Token.{Token}
+use Rattle.grammar_rules.specs.declared.cursor.Cursor.{Cursor}
+use Rattle.grammar_rules.specs.declared.fault.ReadError.{ReadError}
+use Rattle.grammar_rules.specs.declared.fault.ReadError.TheVariants.{Syntax, Size, Memory}
+use Rattle.grammar_rules.specs.Rules.{Rule}
+use Rattle.grammar_rules.specs.Readers.{Answer}
+use Rattle.grammar_rules.specs.Readers.Answer.{got, wrong, large}
+use Rattle.grammar_rules.specs.Whole.{Verdict, IsSentence, IsMisplacedAt, IsTooHeavy}
+use Rattle.grammar_rules.specs.Whole.Verdict.{parsed, misplaced, too_heavy}
+
+-- a value, and the cursor behind what was read
+abbrev pub Gives : {A : Type 0} → Result (A × Cursor) ReadError → Answer Token A → Type 0
+Gives (Ok found) answer = answer ≡ got found.0 found.1.rest.now found.1.budget
+Gives (Err (Syntax remaining)) answer = answer ≡ wrong remaining
+Gives (Err Size) answer = answer ≡ large
+Gives (Err Memory) answer = Unit {0}
+
+-- the cursor alone
+abbrev pub Passes : Result Cursor ReadError → Answer Token (Unit {0}) → Type 0
+Passes (Ok cursor) answer = answer ≡ got tt cursor.rest.now cursor.budget
+Passes (Err (Syntax remaining)) answer = answer ≡ wrong remaining
+Passes (Err Size) answer = answer ≡ large
+Passes (Err Memory) answer = Unit {0}
+
+-- the result of a whole text, by its verdict
+abbrev pub Concludes : {A : Type 0} → Result A ReadError → Verdict A → Type 0
+Concludes (Ok a) verdict = verdict ≡ parsed a
+Concludes (Err (Syntax remaining)) verdict = verdict ≡ misplaced remaining
+Concludes (Err Size) verdict = verdict ≡ too_heavy
+Concludes (Err Memory) verdict = Unit {0}
+
+-- A whole text is read exactly by a rule, with a limit of weight.
+abbrev pub IsReadBy : {A : Type 0} → Rule Token A → ℕ → List Token → Result A ReadError → Type 0
+IsReadBy rule limit ts (Ok a) = IsSentence rule limit ts a
+IsReadBy rule limit ts (Err (Syntax remaining)) = IsMisplacedAt rule limit ts remaining
+IsReadBy rule limit ts (Err Size) = IsTooHeavy rule limit ts
+IsReadBy rule limit ts (Err Memory) = Unit {0}

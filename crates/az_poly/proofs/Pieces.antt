@@ -4,7 +4,7 @@ use Rattle.std.specs.List.{Any, AllPairs}
 use Rattle.std.proofs.lemmas.Int.{by_lt_z, ints}
 use Rattle.std.proofs.Math.Seq.{drop-length}
 use Rattle.std.proofs.lemmas.List.{take_more, append-nil, get_or_default}
-use Rattle.std.proofs.lemmas.List.Elements.{All-nil, All-cons, All-head, All-tail, All-append, Contains-get_or}
+use Rattle.std.proofs.lemmas.List.Elements.{All-nil, All-cons, All-head, All-tail, All-append}
 use Rattle.az_lin.specs.Affine.{Affine, Polyhedron, HasEntries, Holds, IsAtLeastZero, value_at}
 use Rattle.az_lin.specs.Negation.{negated}
 use Rattle.az_lin.proofs.Negation.{negated_holds}
@@ -52,8 +52,7 @@ later_has : (width : ℕ) (kept : List Affine) (row : Affine) (rows : List Affin
 later_has width kept row rows z k d here = λ first later.
     let P : Affine → Type 0 = IsAtLeastZero z in
     let others : List Polyhedron = pieces_from width (kept ++ row ∷ []) rows in
-    let found = Contains-get_or others k d here in
-    let any : Any (λ part. Holds part z) others = (k, get_or others k d, here, found.2, later) in
+    let any : Any (λ part. Holds part z) others = (k, get_or others k d, here, get_or_default others k (get_or others k d) d here, later) in
     let not_above : P row → ⊥ = ((piece_holds width kept row z).0 first).1 in
     not_above (All-head P row [] (All-right P kept (row ∷ []) ((from_hold width (kept ++ row ∷ []) rows z).0 any).0))
 

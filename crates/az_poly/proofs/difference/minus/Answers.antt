@@ -1,4 +1,5 @@
 use Rattle.std.proofs.Common.{◌≡◌, ℕ, ◌+◌, ◌<◌, ◌≤◌, ◌++◌, List, [], ◌∷◌, length, get_or, take, arith, rules, ap, sym, ◌∙◌, subst, All, Err, ◌↔◌, below_more}
+use Rattle.std.proofs.lemmas.Grind.{common_steps}
 use Rattle.std.specs.List.{Any, AllPairs}
 use Rattle.std.proofs.lemmas.List.Elements.{All-same, All-get_or}
 use Rattle.az_lin.specs.Affine.{Affine, Polyhedron, HasEntries, Holds}
@@ -24,14 +25,17 @@ returns-in_err-cut-clause-exact c =
       λ all. subst (λ r. HasEntries (negated r)) (sym (c.index-removed-number.is ∙ ap (λ rows. get_or rows c.cuts.number row) c.rows-removed.ensures.value))
         (All-get_or (λ r. HasEntries (negated r)) c.args.b.now.rows c.cuts.number row (rw (← same) c.cuts-test.true) all) in
     subst (λ answer. IsDifference c.args.a.now c.args.b.now answer) (sym handed)
-      (cut_refused c.args.a.now c.args.b.now row _ c.in_err-cut.field-0.0 c.in_err-cut.ensures few own)
+      (cut_refused c.args.a.now c.args.b.now row (piece c.args.a.now.width c.args.a.now.rows row) c.in_err-cut.field-0.0 c.in_err-cut.ensures few own)
 
 pub cuts-preserved : goal.cuts-preserved
 cuts-preserved c =
     let row = c.index-removed-number.result in
+    let kept : List Affine = c.args.a.now.rows ++ take c.cuts.number c.rows-removed.result.now in
+    let got : c.in_ok-cut.field-0 ≡ piece c.args.a.now.width kept row = first_of (search rules, grind (arith, common_steps)) in
     record {
       so_far = pieces_from-step c.args.a.now.width c.args.a.now.rows c.rows-removed.result.now c.cuts.number row c.cuts.pieces.items c.push.new.self.items
-        c.in_ok-cut.field-0 _ c.cuts-test.true c.cuts.invariant.so_far ? c.in_ok-push.ensures.items;
+        c.in_ok-cut.field-0 _ c.cuts-test.true c.cuts.invariant.so_far
+        (got ∙ ap (λ r. piece c.args.a.now.width kept r) c.index-removed-number.is) c.in_ok-push.ensures.items;
       entries = below_more (λ k. (d : Affine) → HasEntries (negated (get_or c.rows-removed.result.now k d))) c.cuts.number c.cuts.invariant.entries
         (negation_at c.rows-removed.result.now c.cuts.number row c.cuts-test.true c.index-removed-number.is c.in_ok-cut.ensures.1);
     }

@@ -1,8 +1,9 @@
 -- Which points the results hold.
-use Rattle.std.proofs.Common.{◌≡◌, ◌⊎◌, inl, inr, ◌↔◌, ℤ, pos, ◌≤ℤ◌, List, [], ◌∷◌, ◌++◌, length, map, sym, subst, All}
+use Rattle.std.proofs.Common.{◌≡◌, ◌⊎◌, inl, inr, ◌↔◌, ℤ, pos, ◌≤ℤ◌, List, [], ◌∷◌, ◌++◌, ℕ, length, take, map, ap, ◌∙◌, sym, subst, All}
+use Rattle.std.proofs.Math.Seq.{take-length}
 use Rattle.std.specs.List.{Any, flat_map}
-use Rattle.std.proofs.lemmas.List.Elements.{All-append}
-use Rattle.az_lin.specs.Affine.{Affine, AffineMap, Polyhedron, Union, HasWidth, Holds, HoldsSome, IsAtLeastZero, image_of, value_at}
+use Rattle.std.proofs.lemmas.List.Elements.{All-nil, All-head, All-tail, All-map, All-append}
+use Rattle.az_lin.specs.Affine.{Affine, AffineMap, Polyhedron, Union, HasWidth, IsOver, Holds, HoldsSome, IsAtLeastZero, image_of, value_at}
 use Rattle.az_lin.specs.Substitution.{less, shifted, composed}
 use Rattle.az_lin.proofs.Substitution.{value_at-shifted, value_at-composed}
 use Rattle.az_poly.specs.Operations.{both, intersection, conj_before, domain_before, conj_moved, domain_moved}
@@ -65,3 +66,21 @@ moved_holds v d z same =
     Any-map (λ conj. Holds conj z) (λ conj. Holds conj (less z v)) (λ conj. conj_moved v conj) d.disjuncts
       (λ conj. All-map_same (IsAtLeastZero z) (IsAtLeastZero (less z v)) (λ row. shifted row v) conj.rows
         (λ row. same_sign (value_at (shifted row v) z) (value_at row (less z v)) (value_at-shifted row z v same)))
+
+-- after the last of the firsts
+pub met_all : (a b : Union) (firsts seconds : List Polyhedron) (i : ℕ) (done : List Polyhedron) → i ≡ length firsts → firsts ≡ a.disjuncts → seconds ≡ b.disjuncts
+    → done ≡ flat_map (λ first. map (λ second. both first second) seconds) (take i firsts) → done ≡ (intersection a b).disjuncts
+met_all a b firsts seconds i done full same same' so_far =
+    so_far
+    ∙ ap (λ n. flat_map (λ first. map (λ second. both first second) seconds) (take n firsts)) full
+    ∙ ap (flat_map (λ first. map (λ second. both first second) seconds)) (take-length firsts ∙ same)
+    ∙ ap (λ others. flat_map (λ first. map (λ second. both first second) others) a.disjuncts) same'
+
+pub meets_over : (width : ℕ) (firsts seconds : List Polyhedron) → All (IsOver width) firsts
+    → All (IsOver width) (flat_map (λ first. map (λ second. both first second) seconds) firsts)
+meets_over width [] seconds over = All-nil (IsOver width)
+meets_over width (first ∷ firsts) seconds over =
+    let here : IsOver width first = All-head (IsOver width) first firsts over in
+    All-append (IsOver width) (map (λ second. both first second) seconds) (flat_map (λ other. map (λ second. both other second) seconds) firsts)
+      (All-map (IsOver width) (λ second. both first second) seconds (λ k d h. here))
+      (meets_over width firsts seconds (All-tail (IsOver width) first firsts over))

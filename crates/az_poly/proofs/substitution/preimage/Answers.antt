@@ -6,6 +6,7 @@ use Rattle.az_lin.proofs.Mapped.{map-take-more, map-take-all, fits_at}
 use Rattle.az_poly.specs.Answers.{IsExactly, HasEntryRows, HasEntryDisjuncts}
 use Rattle.az_poly.specs.Operations.{conj_before, domain_before}
 use Rattle.az_poly.proofs.Exactly.{handed_on}
+use Rattle.az_poly.proofs.Lists.{union_is}
 use Rattle.az_poly.proofs.Held.{before_holds}
 use Rattle.az_poly.proofs.substitution.preimage.Goals as goal
 
@@ -47,7 +48,13 @@ of_list-requires c =
 
 pub returns-clause-meaning : goal.returns-clause-meaning
 returns-clause-meaning c = λ z.
-    let same : c.in_ok-of_list.field-0 ≡ domain_before c.args.f.now c.args.d.now = search rules in
+    let change : Polyhedron → Polyhedron = λ conj. conj_before c.args.f.now conj in
+    let full : c.conjs.conj-index ≡ length c.disjuncts-own.result.now = omega arith in
+    let same : c.in_ok-of_list.field-0 ≡ domain_before c.args.f.now c.args.d.now =
+      c.in_ok-of_list.ensures.ok
+      ∙ union_is (domain_before c.args.f.now c.args.d.now) _ _ c.width.ensures.value
+          (map-take-all change c.disjuncts-own.result.now c.args.d.now.disjuncts c.conjs.conj-index c.from_vec.result
+            (c.from_vec.ensures ∙ c.conjs.invariant.so_far) full c.disjuncts-own.ensures.value) in
     let wide : All (HasWidth c.args.f.now.width) c.args.f.now.rows = subst (λ width. All (HasWidth width) c.args.f.now.rows) c.width.ensures.value c.width.ensures.widths in
     subst (λ (before : Union). HoldsSome before z ↔ HoldsSome c.args.d.now (image_of c.args.f.now z)) (sym same)
       (before_holds c.args.f.now c.args.d.now z wide)

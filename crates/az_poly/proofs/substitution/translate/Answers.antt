@@ -7,6 +7,7 @@ use Rattle.az_lin.proofs.Mapped.{map-take-more, map-take-all, fits_at}
 use Rattle.az_poly.specs.Answers.{IsExactly, HasEntryRows, HasEntryDisjuncts}
 use Rattle.az_poly.specs.Operations.{conj_moved, domain_moved}
 use Rattle.az_poly.proofs.Exactly.{handed_on}
+use Rattle.az_poly.proofs.Lists.{union_is}
 use Rattle.az_poly.proofs.Held.{moved_holds}
 use Rattle.az_poly.proofs.substitution.translate.Goals as goal
 
@@ -49,6 +50,12 @@ of_list-requires c =
 
 pub returns-clause-meaning : goal.returns-clause-meaning
 returns-clause-meaning c = λ z long.
-    let same : c.in_ok-of_list.field-0 ≡ domain_moved c.args.v.now c.args.d.now = search rules in
+    let change : Polyhedron → Polyhedron = λ conj. conj_moved c.args.v.now conj in
+    let full : c.conjs.conj-index ≡ length c.disjuncts-own.result.now = omega arith in
+    let same : c.in_ok-of_list.field-0 ≡ domain_moved c.args.v.now c.args.d.now =
+      c.in_ok-of_list.ensures.ok
+      ∙ union_is (domain_moved c.args.v.now c.args.d.now) _ _ c.width.ensures
+          (map-take-all change c.disjuncts-own.result.now c.args.d.now.disjuncts c.conjs.conj-index c.from_vec.result
+            (c.from_vec.ensures ∙ c.conjs.invariant.so_far) full c.disjuncts-own.ensures.value) in
     subst (λ (moved : Union). HoldsSome moved z ↔ HoldsSome c.args.d.now (less z c.args.v.now)) (sym same)
       (moved_holds c.args.v.now c.args.d.now z long)

@@ -28,27 +28,32 @@ Any-weaker P Q xs weaker (k, y, here, is, p) = (k, y, here, is, weaker y p)
 pub Any-append : {X : Type 0} (P : X → Type 0) (xs ys : List X) → Any P (xs ++ ys) ↔ (Any P xs ⊎ Any P ys)
 Any-append P [] ys = (λ any. inr any, λ side. elim side [ inl none ↦ absurd (Any-nil P none) | inr any ↦ any ])
 Any-append {X} P (x ∷ xs) ys =
-    let rest : Any P (xs ++ ys) ↔ (Any P xs ⊎ Any P ys) = Any-append P xs ys in
-    (λ any. elim (Any-cons P x (xs ++ ys) any) [
-        inl p ↦ inl (Any-here P x xs p)
-      | inr later ↦ elim (rest.0 later) [ inl left ↦ inl (Any-there P x xs left) | inr right ↦ inr right ] ],
-     λ side. elim side [
-        inl left ↦ elim (Any-cons P x xs left) [ inl p ↦ Any-here P x (xs ++ ys) p | inr later ↦ Any-there P x (xs ++ ys) (rest.1 (inl later)) ]
-      | inr right ↦ Any-there P x (xs ++ ys) (rest.1 (inr right)) ])
+    let rest : Any P (xs ++ ys) ↔ (Any P xs ⊎ Any P ys) = Any-append P xs ys in (
+      λ any. elim (Any-cons P x (xs ++ ys) any) [
+        | inl p ↦ inl (Any-here P x xs p)
+        | inr later ↦ elim (rest.0 later) [ inl left ↦ inl (Any-there P x xs left) | inr right ↦ inr right ]
+      ],
+      λ side. elim side [
+        | inl left ↦ elim (Any-cons P x xs left) [ inl p ↦ Any-here P x (xs ++ ys) p | inr later ↦ Any-there P x (xs ++ ys) (rest.1 (inl later)) ]
+        | inr right ↦ Any-there P x (xs ++ ys) (rest.1 (inr right))
+      ],
+    )
 
 pub Any-map : {A B : Type 0} (P : B → Type 0) (Q : A → Type 0) (f : A → B) (xs : List A) → ((x : A) → P (f x) ↔ Q x) → Any P (map f xs) ↔ Any Q xs
 Any-map P Q f [] same = (λ none. absurd (Any-nil P none), λ none. absurd (Any-nil Q none))
 Any-map P Q f (x ∷ xs) same =
-    let rest : Any P (map f xs) ↔ Any Q xs = Any-map P Q f xs same in
-    (λ any. elim (Any-cons P (f x) (map f xs) any) [ inl p ↦ Any-here Q x xs ((same x).0 p) | inr later ↦ Any-there Q x xs (rest.0 later) ],
-     λ any. elim (Any-cons Q x xs any) [ inl q ↦ Any-here P (f x) (map f xs) ((same x).1 q) | inr later ↦ Any-there P (f x) (map f xs) (rest.1 later) ])
+    let rest : Any P (map f xs) ↔ Any Q xs = Any-map P Q f xs same in (
+      λ any. elim (Any-cons P (f x) (map f xs) any) [ inl p ↦ Any-here Q x xs ((same x).0 p) | inr later ↦ Any-there Q x xs (rest.0 later) ],
+      λ any. elim (Any-cons Q x xs any) [ inl q ↦ Any-here P (f x) (map f xs) ((same x).1 q) | inr later ↦ Any-there P (f x) (map f xs) (rest.1 later) ],
+    )
 
 pub All-map_same : {A B : Type 0} (P : B → Type 0) (Q : A → Type 0) (f : A → B) (xs : List A) → ((x : A) → P (f x) ↔ Q x) → All P (map f xs) ↔ All Q xs
 All-map_same P Q f [] same = (λ all. All-nil Q, λ all. All-nil P)
 All-map_same P Q f (x ∷ xs) same =
-    let rest : All P (map f xs) ↔ All Q xs = All-map_same P Q f xs same in
-    (λ all. All-cons Q x xs ((same x).0 (All-head P (f x) (map f xs) all)) (rest.0 (All-tail P (f x) (map f xs) all)),
-     λ all. All-cons P (f x) (map f xs) ((same x).1 (All-head Q x xs all)) (rest.1 (All-tail Q x xs all)))
+    let rest : All P (map f xs) ↔ All Q xs = All-map_same P Q f xs same in (
+      λ all. All-cons Q x xs ((same x).0 (All-head P (f x) (map f xs) all)) (rest.0 (All-tail P (f x) (map f xs) all)),
+      λ all. All-cons P (f x) (map f xs) ((same x).1 (All-head Q x xs all)) (rest.1 (All-tail Q x xs all)),
+    )
 
 pub All-left : {X : Type 0} (P : X → Type 0) (xs ys : List X) → All P (xs ++ ys) → All P xs
 All-left P [] ys all = All-nil P

@@ -21,9 +21,10 @@ piece_holds : (width : ℕ) (kept : List Affine) (row : Affine) (z : List ℤ)
     → Holds (piece width kept row) z ↔ (All (IsAtLeastZero z) kept × (IsAtLeastZero z row → ⊥))
 piece_holds width kept row z =
     let P : Affine → Type 0 = IsAtLeastZero z in
-    let turned : P (negated row) ↔ (P row → ⊥) = negated_holds row z in
-    (λ all. (All-left P kept (negated row ∷ []) all, turned.0 (All-head P (negated row) [] (All-right P kept (negated row ∷ []) all))),
-     λ held. All-append P kept (negated row ∷ []) held.0 (All-cons P (negated row) [] (turned.1 held.1) (All-nil P)))
+    let turned : P (negated row) ↔ (P row → ⊥) = negated_holds row z in (
+      λ all. (All-left P kept (negated row ∷ []) all, turned.0 (All-head P (negated row) [] (All-right P kept (negated row ∷ []) all))),
+      λ held. All-append P kept (negated row ∷ []) held.0 (All-cons P (negated row) [] (turned.1 held.1) (All-nil P)),
+    )
 
 from_hold : (width : ℕ) (kept rows : List Affine) (z : List ℤ)
     → Any (λ part. Holds part z) (pieces_from width kept rows) ↔ (All (IsAtLeastZero z) kept × (All (IsAtLeastZero z) rows → ⊥))
@@ -34,14 +35,17 @@ from_hold width kept (row ∷ rows) z =
     let first : Polyhedron = piece width kept row in
     let others : List Polyhedron = pieces_from width (kept ++ row ∷ []) rows in
     let one : H first ↔ (All P kept × (P row → ⊥)) = piece_holds width kept row z in
-    let rest : Any H others ↔ (All P (kept ++ row ∷ []) × (All P rows → ⊥)) = from_hold width (kept ++ row ∷ []) rows z in
-    (λ any. elim (Any-cons H first others any) [
-        inl held ↦ ((one.0 held).0, λ all. (one.0 held).1 (All-head P row rows all))
-      | inr later ↦ (All-left P kept (row ∷ []) (rest.0 later).0, λ all. (rest.0 later).1 (All-tail P row rows all)) ],
-     λ held. elim (at_least_or_not z row) [
-        inl above ↦ Any-there H first others
-          (rest.1 (All-append P kept (row ∷ []) held.0 (All-cons P row [] above (All-nil P)), λ all. held.1 (All-cons P row rows above all)))
-      | inr not_above ↦ Any-here H first others (one.1 (held.0, not_above)) ])
+    let rest : Any H others ↔ (All P (kept ++ row ∷ []) × (All P rows → ⊥)) = from_hold width (kept ++ row ∷ []) rows z in (
+      λ any. elim (Any-cons H first others any) [
+        | inl held ↦ ((one.0 held).0, λ all. (one.0 held).1 (All-head P row rows all))
+        | inr later ↦ (All-left P kept (row ∷ []) (rest.0 later).0, λ all. (rest.0 later).1 (All-tail P row rows all))
+      ],
+      λ held. elim (at_least_or_not z row) [
+        | inl above ↦ Any-there H first others
+            (rest.1 (All-append P kept (row ∷ []) held.0 (All-cons P row [] above (All-nil P)), λ all. held.1 (All-cons P row rows above all)))
+        | inr not_above ↦ Any-here H first others (one.1 (held.0, not_above))
+      ],
+    )
 
 pub pieces_hold : (a b : Polyhedron) (z : List ℤ) → Any (λ part. Holds part z) (pieces a b) ↔ (Holds a z × (Holds b z → ⊥))
 pieces_hold a b z = from_hold a.width a.rows b.rows z
@@ -60,7 +64,7 @@ from_disjoint : (width : ℕ) (kept rows : List Affine) (z : List ℤ) → AllPa
 from_disjoint width kept [] z = AllPairs-nil (λ part other. Holds part z → Holds other z → ⊥)
 from_disjoint width kept (row ∷ rows) z =
     AllPairs-cons (λ part other. Holds part z → Holds other z → ⊥) (piece width kept row) (pieces_from width (kept ++ row ∷ []) rows)
-      (later_has width kept row rows z) (from_disjoint width (kept ++ row ∷ []) rows z)
+    (later_has width kept row rows z) (from_disjoint width (kept ++ row ∷ []) rows z)
 
 pub pieces_disjoint : (a b : Polyhedron) (z : List ℤ) → AllPairs (λ part other. Holds part z → Holds other z → ⊥) (pieces a b)
 pieces_disjoint a b z = from_disjoint a.width a.rows b.rows z
@@ -79,7 +83,7 @@ pieces_from-step width kept rows i d done next part whole here before is pushed 
     let row : Affine = get_or rows i d in
     let rest : List Polyhedron = pieces_from width ((kept ++ take i rows) ++ row ∷ []) (drop (i + 1) rows) in
     let more : kept ++ take (i + 1) rows ≡ (kept ++ take i rows) ++ row ∷ [] =
-      ap (λ xs. kept ++ xs) (take_more rows i d here) ∙ sym (append_assoc kept (take i rows) (row ∷ [])) in
+    ap (λ xs. kept ++ xs) (take_more rows i d here) ∙ sym (append_assoc kept (take i rows) (row ∷ [])) in
     let opened : drop i rows ≡ row ∷ drop (i + 1) rows = drop-cons rows i d here ∙ ap (λ n. row ∷ drop n rows) (sym (add-one i)) in
     ap (λ xs. next ++ pieces_from width xs (drop (i + 1) rows)) more
     ∙ ap (λ xs. xs ++ rest) pushed

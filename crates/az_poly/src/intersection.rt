@@ -25,7 +25,12 @@ fn meet_conjs(alloc: Global, first: &Conj, second: &Conj) -> Result<Conj, PolyFa
 }
 
 /// Appends what the first has in common with each of the seconds.
-fn push_meets(alloc: Global, met: &mut Vec<Conj>, first: &Conj, seconds: &[Conj]) -> Result<(), PolyFault>
+fn push_meets(
+    alloc: Global,
+    met: &mut Vec<Conj>,
+    first: &Conj,
+    seconds: &[Conj],
+) -> Result<(), PolyFault>
     requires { All (IsOver first.now.width) seconds.now }
     ensures ok { OnOk result (met.new.items ≡ met.old.items ++ map (λ second. both first.now second) seconds.now) }
     ensures cause { IfErr result (λ fault. fault ≡ Memory) }

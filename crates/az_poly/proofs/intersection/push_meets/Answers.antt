@@ -12,5 +12,5 @@ pub seconds-preserved : goal.seconds-preserved
 seconds-preserved c =
     let meet_first : Polyhedron → Polyhedron = λ second. both c.args.first.now second in
     append-take-more meet_first c.args.seconds.now c.seconds.second-index c.second-item.result c.in_ok-meet_conjs.field-0
-      c.args.met.now.items c.seconds.met.items c.push.new.self.items c.seconds-test.true c.seconds.invariant
-      (c.in_ok-meet_conjs.ensures.ok ∙ ap meet_first c.second-item.is) c.in_ok-push.ensures.items
+    c.args.met.now.items c.seconds.met.items c.push.new.self.items c.seconds-test.true c.seconds.invariant
+    (c.in_ok-meet_conjs.ensures.ok ∙ ap meet_first c.second-item.is) c.in_ok-push.ensures.items

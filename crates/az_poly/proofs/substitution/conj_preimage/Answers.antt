@@ -17,8 +17,8 @@ returns-in_err-compose c =
     let refusal : linear.IsExactly HasEntries (composed row c.args.f.now) (Err c.in_err-compose.field-0.0) = c.in_err-compose.ensures.exact in
     let handed : c.from_residual-in_err-compose.result ≡ Err (poly_fault c.in_err-compose.field-0.0) = search rules in
     subst (λ answer. IsExactly HasEntryRows (conj_before c.args.f.now c.args.conj.now) answer) (sym handed)
-      (row_handed_on HasEntries (composed row c.args.f.now) HasEntryRows (conj_before c.args.f.now c.args.conj.now) c.in_err-compose.field-0.0 refusal
-        (fits_at HasEntries (λ r. composed r c.args.f.now) c.rows-own.result.now c.args.conj.now.rows c.rows.row-index row c.rows-test.true c.row-item.is c.rows-own.ensures.value))
+    (row_handed_on HasEntries (composed row c.args.f.now) HasEntryRows (conj_before c.args.f.now c.args.conj.now) c.in_err-compose.field-0.0 refusal
+    (fits_at HasEntries (λ r. composed r c.args.f.now) c.rows-own.result.now c.args.conj.now.rows c.rows.row-index row c.rows-test.true c.row-item.is c.rows-own.ensures.value))
 
 pub rows-preserved : goal.rows-preserved
 rows-preserved c =
@@ -26,25 +26,26 @@ rows-preserved c =
     let got = c.in_ok-compose.field-0 in
     record {
       so_far = map-take-more change c.rows-own.result.now c.rows.row-index c.row-item.result got c.rows.rows.items c.push.new.self.items c.rows-test.true
-        c.rows.invariant.so_far (c.in_ok-compose.ensures.exact.0 ∙ ap change c.row-item.is) c.in_ok-push.ensures.items;
+          c.rows.invariant.so_far (c.in_ok-compose.ensures.exact.0 ∙ ap change c.row-item.is) c.in_ok-push.ensures.items;
       entries = All-same HasEntries c.push.new.self.items (c.rows.rows.items ++ got ∷ []) c.in_ok-push.ensures.items
-        (All-push HasEntries c.rows.rows.items got c.rows.invariant.entries (subst HasEntries (sym c.in_ok-compose.ensures.exact.0) c.in_ok-compose.ensures.exact.1));
+          (All-push HasEntries c.rows.rows.items got c.rows.invariant.entries (subst HasEntries (sym c.in_ok-compose.ensures.exact.0) c.in_ok-compose.ensures.exact.1));
     }
 
 pub new-requires : goal.new-requires
 new-requires c =
     let full : c.rows.row-index ≡ length c.rows-own.result.now = omega arith in
     subst (λ width. All (HasWidth width) c.from_vec.result) (sym c.width.ensures.value)
-      (All-same (HasWidth c.args.f.now.width) c.from_vec.result (conj_before c.args.f.now c.args.conj.now).rows
-        (map-take-all (λ row. composed row c.args.f.now) c.rows-own.result.now c.args.conj.now.rows c.rows.row-index c.from_vec.result
-          (c.from_vec.ensures ∙ c.rows.invariant.so_far) full c.rows-own.ensures.value)
-        (widths_composed c.args.conj.now.rows c.args.f.now))
+    (All-same (HasWidth c.args.f.now.width) c.from_vec.result (conj_before c.args.f.now c.args.conj.now).rows
+    (map-take-all (λ row. composed row c.args.f.now) c.rows-own.result.now c.args.conj.now.rows c.rows.row-index c.from_vec.result
+    (c.from_vec.ensures ∙ c.rows.invariant.so_far) full c.rows-own.ensures.value)
+    (widths_composed c.args.conj.now.rows c.args.f.now))
 
 pub returns : goal.returns
 returns c =
     let full : c.rows.row-index ≡ length c.rows-own.result.now = omega arith in
     let rows : c.rows.rows.items ≡ (conj_before c.args.f.now c.args.conj.now).rows =
-      map-take-all (λ row. composed row c.args.f.now) c.rows-own.result.now c.args.conj.now.rows c.rows.row-index c.rows.rows.items
-        c.rows.invariant.so_far full c.rows-own.ensures.value in
-    (c.new.ensures ∙ polyhedron_is (conj_before c.args.f.now c.args.conj.now) _ _ c.width.ensures.value (c.from_vec.ensures ∙ rows),
-     All-same HasEntries (conj_before c.args.f.now c.args.conj.now).rows c.rows.rows.items (sym rows) c.rows.invariant.entries)
+    map-take-all (λ row. composed row c.args.f.now) c.rows-own.result.now c.args.conj.now.rows c.rows.row-index c.rows.rows.items
+    c.rows.invariant.so_far full c.rows-own.ensures.value in (
+      c.new.ensures ∙ polyhedron_is (conj_before c.args.f.now c.args.conj.now) _ _ c.width.ensures.value (c.from_vec.ensures ∙ rows),
+      All-same HasEntries (conj_before c.args.f.now c.args.conj.now).rows c.rows.rows.items (sym rows) c.rows.invariant.entries,
+    )

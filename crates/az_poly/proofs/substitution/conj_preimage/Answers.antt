@@ -1,0 +1,51 @@
+use Rattle.std.proofs.Common.{◌≡◌, ◌++◌, [], ◌∷◌, length, map, get_or, arith, rules, ap, sym, ◌∙◌, subst, All, Err}
+use Rattle.std.proofs.lemmas.List.Elements.{All-push, All-same}
+use Rattle.az_lin.specs.Affine.{Affine, HasEntries, HasWidth}
+use Rattle.az_lin.specs.Answers as linear
+use Rattle.az_lin.specs.Substitution.{composed}
+use Rattle.az_lin.proofs.Mapped.{map-take-more, map-take-all, fits_at}
+use Rattle.az_lin.proofs.Substitution.{widths_composed}
+use Rattle.az_poly.specs.Answers.{IsExactly, HasEntryRows, poly_fault}
+use Rattle.az_poly.specs.Operations.{conj_before}
+use Rattle.az_poly.proofs.Exactly.{row_handed_on}
+use Rattle.az_poly.proofs.Lists.{polyhedron_is}
+use Rattle.az_poly.proofs.substitution.conj_preimage.Goals as goal
+
+pub returns-in_err-compose : goal.returns-in_err-compose
+returns-in_err-compose c =
+    let row = c.row-item.result in
+    let refusal : linear.IsExactly HasEntries (composed row c.args.f.now) (Err c.in_err-compose.field-0.0) = c.in_err-compose.ensures.exact in
+    let handed : c.from_residual-in_err-compose.result ≡ Err (poly_fault c.in_err-compose.field-0.0) = search rules in
+    subst (λ answer. IsExactly HasEntryRows (conj_before c.args.f.now c.args.conj.now) answer) (sym handed)
+    (row_handed_on HasEntries (composed row c.args.f.now) HasEntryRows (conj_before c.args.f.now c.args.conj.now) c.in_err-compose.field-0.0 refusal
+    (fits_at HasEntries (λ r. composed r c.args.f.now) c.rows-own.result.now c.args.conj.now.rows c.rows.row-index row c.rows-test.true c.row-item.is c.rows-own.ensures.value))
+
+pub rows-preserved : goal.rows-preserved
+rows-preserved c =
+    let change : Affine → Affine = λ row. composed row c.args.f.now in
+    let got = c.in_ok-compose.field-0 in
+    record {
+      so_far = map-take-more change c.rows-own.result.now c.rows.row-index c.row-item.result got c.rows.rows.items c.push.new.self.items c.rows-test.true
+          c.rows.invariant.so_far (c.in_ok-compose.ensures.exact.0 ∙ ap change c.row-item.is) c.in_ok-push.ensures.items;
+      entries = All-same HasEntries c.push.new.self.items (c.rows.rows.items ++ got ∷ []) c.in_ok-push.ensures.items
+          (All-push HasEntries c.rows.rows.items got c.rows.invariant.entries (subst HasEntries (sym c.in_ok-compose.ensures.exact.0) c.in_ok-compose.ensures.exact.1));
+    }
+
+pub new-requires : goal.new-requires
+new-requires c =
+    let full : c.rows.row-index ≡ length c.rows-own.result.now = omega arith in
+    subst (λ width. All (HasWidth width) c.from_vec.result) (sym c.width.ensures.value)
+    (All-same (HasWidth c.args.f.now.width) c.from_vec.result (conj_before c.args.f.now c.args.conj.now).rows
+    (map-take-all (λ row. composed row c.args.f.now) c.rows-own.result.now c.args.conj.now.rows c.rows.row-index c.from_vec.result
+    (c.from_vec.ensures ∙ c.rows.invariant.so_far) full c.rows-own.ensures.value)
+    (widths_composed c.args.conj.now.rows c.args.f.now))
+
+pub returns : goal.returns
+returns c =
+    let full : c.rows.row-index ≡ length c.rows-own.result.now = omega arith in
+    let rows : c.rows.rows.items ≡ (conj_before c.args.f.now c.args.conj.now).rows =
+    map-take-all (λ row. composed row c.args.f.now) c.rows-own.result.now c.args.conj.now.rows c.rows.row-index c.rows.rows.items
+    c.rows.invariant.so_far full c.rows-own.ensures.value in (
+      c.new.ensures ∙ polyhedron_is (conj_before c.args.f.now c.args.conj.now) _ _ c.width.ensures.value (c.from_vec.ensures ∙ rows),
+      All-same HasEntries (conj_before c.args.f.now c.args.conj.now).rows c.rows.rows.items (sym rows) c.rows.invariant.entries,
+    )

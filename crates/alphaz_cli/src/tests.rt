@@ -2,6 +2,8 @@
 
 use crate::run::alphaz;
 use crate::status::{Outcome, Status};
+use alphabets_read::read_program;
+use az_ast::{Found, Inputs, value_to};
 use az_desk::{Failure, MemoryDesk};
 use az_lin::{Limit, List, Name};
 use std::alloc::Global;
@@ -167,5 +169,18 @@ fn a_long_file_is_refused(rt: HostRuntime) -> Result<(), Fail> {
         b"alphaz: 11 Limit File\n".as_slice()
     );
     assert!(rt; matches!(&status.answer, Outcome::Limited(Limit::File)));
+    Ok(())
+}
+
+#[test]
+fn the_plain_evaluation_has_the_printed_values(rt: HostRuntime) -> Result<(), Fail> {
+    let alloc = rt.alloc();
+    let program = read_program(alloc, RAMP.as_bytes())?;
+    let equation = program.equations().first().ok_or("an equation")?;
+    let inputs = Inputs::new(alloc);
+    for (index, value) in [(0, 1), (1, 3), (2, 5), (3, 7)] {
+        let found = value_to(alloc, &program, &inputs, 0, &equation.body, &[index])?;
+        assert_eq!(rt; found, Found::Value(value));
+    }
     Ok(())
 }

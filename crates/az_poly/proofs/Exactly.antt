@@ -1,5 +1,5 @@
 -- What follows from an exact answer.
-use Rattle.std.proofs.Common.{◌≡◌, Result, Ok, Err, IfOk, subst, sym}
+use Rattle.std.proofs.Common.{Result, Ok, Err, IfOk, subst, sym}
 use Rattle.az_lin.specs.Answers as rows
 use Rattle.az_lin.specs.declared.fault.LinFault.{LinFault}
 use Rattle.az_lin.specs.declared.fault.LinFault.TheVariants as lin

@@ -3,7 +3,7 @@ use Rattle.std.proofs.Common.{◌≡◌, ◌⊎◌, inl, inr, ◌↔◌, ℤ, po
 use Rattle.std.proofs.Math.Seq.{take-length}
 use Rattle.std.specs.List.{Any, flat_map}
 use Rattle.std.proofs.lemmas.List.Elements.{All-nil, All-head, All-tail, All-map, All-append}
-use Rattle.az_lin.specs.Affine.{Affine, AffineMap, Polyhedron, Union, HasWidth, IsOver, Holds, HoldsSome, IsAtLeastZero, image_of, value_at}
+use Rattle.az_lin.specs.Affine.{AffineMap, Polyhedron, Union, HasWidth, IsOver, Holds, HoldsSome, IsAtLeastZero, image_of, value_at}
 use Rattle.az_lin.specs.Substitution.{less, shifted, composed}
 use Rattle.az_lin.proofs.Substitution.{value_at-shifted, value_at-composed}
 use Rattle.az_poly.specs.Operations.{both, intersection, conj_before, domain_before, conj_moved, domain_moved}

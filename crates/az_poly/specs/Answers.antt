@@ -1,7 +1,7 @@
 -- What a call answers that may find an entry out of range or too many pieces.
 use Rattle.std.specs.Prelude.{◌≡◌, ◌<◌, ◌≤◌, List, length, Result, Ok, Err}
 use Rattle.std.specs.List.{All}
-use Rattle.az_lin.specs.Affine.{Affine, Polyhedron, Union, HasEntries}
+use Rattle.az_lin.specs.Affine.{Polyhedron, Union, HasEntries}
 use Rattle.az_lin.specs.Negation.{negated}
 use Rattle.az_lin.specs.declared.fault.LinFault.{LinFault}
 use Rattle.az_lin.specs.declared.fault.LinFault.TheVariants as lin

@@ -32,6 +32,21 @@ const SUM: Step = Step {
 
 const GREAT: i128 = 1 << 126;
 
+/// Whether both judges answer as they should: `None` for a derivation that is accepted, or the
+/// number of the step that is bad.
+fn is_judged(
+    alloc: Global,
+    system: &Conj,
+    steps: &[Step],
+    bad: Option<u64>,
+    bad_exactly: Option<u64>,
+) -> Result<bool, LinFault> {
+    let derivation = derivation(alloc, steps)?;
+    let rounded = check(alloc, system, &derivation) == verdict(bad);
+    let exact = check_exact(alloc, system, &derivation) == verdict(bad_exactly);
+    Ok(rounded && exact)
+}
+
 fn verdict(bad: Option<u64>) -> Result<(), CheckFault> {
     match bad {
         Some(number) => Err(CheckFault::BadStep { number }),
@@ -40,118 +55,66 @@ fn verdict(bad: Option<u64>) -> Result<(), CheckFault> {
 }
 
 #[test]
-fn judges_derivations(rt: HostRuntime) -> Result<(), LinFault> {
+fn accepts_contradictions(rt: HostRuntime) -> Result<(), LinFault> {
     let alloc = rt.alloc();
     let apart = system(alloc, (1, -3), (-1, 2))?;
+    assert!(rt; is_judged(alloc, &apart, &[SUM], None, None)?);
     let touching = system(alloc, (1, -3), (-1, 3))?;
+    assert!(rt; is_judged(alloc, &touching, &[SUM], Some(1), Some(1))?);
     let half = system(alloc, (2, -1), (-2, 1))?;
     let rounded = [
         step(1, 0, 0, 0, 2),
         step(1, 1, 0, 1, 2),
         step(1, 2, 1, 3, 1),
     ];
-    for (system, steps, bad, bad_exactly, what) in [
-        (&apart, [SUM].as_slice(), None, None, "a sum"),
-        (
-            &touching,
-            [SUM].as_slice(),
-            Some(1),
-            Some(1),
-            "no contradiction",
-        ),
-        (
-            &half,
-            rounded.as_slice(),
-            None,
-            Some(0),
-            "rounded constants",
-        ),
-        (&apart, [].as_slice(), Some(0), Some(0), "no step"),
-        (
-            &apart,
-            [step(-1, 0, 1, 1, 1)].as_slice(),
-            Some(0),
-            Some(0),
-            "a negative factor",
-        ),
-        (
-            &apart,
-            [step(1, 0, 1, 1, 0)].as_slice(),
-            Some(0),
-            Some(0),
-            "divided by 0",
-        ),
-        (
-            &apart,
-            [step(1, 0, 1, 2, 1)].as_slice(),
-            Some(0),
-            Some(0),
-            "a row too far",
-        ),
-        (
-            &half,
-            [step(1, 0, 0, 0, 3)].as_slice(),
-            Some(0),
-            Some(0),
-            "no divisor",
-        ),
-        (
-            &half,
-            [step(GREAT, 0, 0, 0, 1)].as_slice(),
-            Some(0),
-            Some(0),
-            "a product of 2^127",
-        ),
-        (
-            &half,
-            [step(GREAT, 1, 0, 1, 1)].as_slice(),
-            Some(0),
-            Some(0),
-            "a product of -2^127",
-        ),
-        (
-            &apart,
-            [SUM, step(1, 0, 0, 0, 1)].as_slice(),
-            Some(2),
-            Some(2),
-            "a step after the contradiction",
-        ),
-        (
-            &apart,
-            [SUM, step(1, 0, 0, 9, 1)].as_slice(),
-            Some(1),
-            Some(1),
-            "a bad second step",
-        ),
-    ] {
-        let steps = derivation(alloc, steps)?;
-        assert_eq!(rt; check(alloc, system, &steps), verdict(bad), "{what}");
-        assert_eq!(rt;
-            check_exact(alloc, system, &steps),
-            verdict(bad_exactly),
-            "{what}, exactly"
-        );
-    }
+    assert!(rt; is_judged(alloc, &half, &rounded, None, Some(0))?);
     Ok(())
+}
+
+#[test]
+fn refuses_forged_steps(rt: HostRuntime) -> Result<(), LinFault> {
+    let alloc = rt.alloc();
+    let half = system(alloc, (2, -1), (-2, 1))?;
+    for forged in [
+        step(-1, 0, 1, 1, 1),
+        step(1, 0, 1, 1, 0),
+        step(1, 0, 1, 9, 1),
+        step(1, 0, 0, 0, 3),
+        step(GREAT, 0, 0, 0, 1),
+        step(GREAT, 1, 0, 1, 1),
+    ] {
+        assert!(rt; is_judged(alloc, &half, &[forged], Some(0), Some(0))?);
+        assert!(rt; is_judged(alloc, &half, &[SUM, forged], Some(1), Some(1))?);
+    }
+    assert!(rt; is_judged(alloc, &half, &[step(1, 0, 1, 2, 1)], Some(0), Some(0))?);
+    assert!(rt; is_judged(alloc, &half, &[], Some(0), Some(0))?);
+    Ok(())
+}
+
+/// The point of one coordinate.
+fn point(alloc: Global, num: i128, den: i128) -> Result<RatPoint, LinFault> {
+    Ok(RatPoint {
+        nums: List::from_vec(Vec::from_slice(alloc, &[num])?),
+        den,
+    })
 }
 
 #[test]
 fn judges_points(rt: HostRuntime) -> Result<(), LinFault> {
     let alloc = rt.alloc();
     let half = system(alloc, (2, -1), (-2, 1))?;
-    for (nums, den, met) in [
-        ([1].as_slice(), 2, true),
-        ([1].as_slice(), 3, false),
-        ([-1].as_slice(), -2, false),
-        ([0].as_slice(), 0, false),
-        ([1, 1].as_slice(), 2, false),
-        ([GREAT].as_slice(), 2, false),
+    for (num, den, met) in [
+        (1, 2, true),
+        (1, 3, false),
+        (-1, -2, false),
+        (0, 0, false),
+        (GREAT, 2, false),
     ] {
-        let point = RatPoint {
-            nums: List::from_vec(Vec::from_slice(alloc, nums)?),
-            den,
-        };
-        assert_eq!(rt; satisfies(&half, &point), met, "{nums:?} over {den}");
+        assert_eq!(rt;
+            satisfies(&half, &point(alloc, num, den)?),
+            met,
+            "{num} over {den}"
+        );
     }
     Ok(())
 }

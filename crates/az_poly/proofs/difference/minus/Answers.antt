@@ -1,10 +1,10 @@
-use Rattle.std.proofs.Common.{◌≡◌, ℕ, ◌+◌, ◌<◌, ◌≤◌, ◌++◌, List, [], ◌∷◌, length, get_or, take, arith, rules, ap, sym, ◌∙◌, subst, All, Err, ◌↔◌, below_more}
+use Rattle.std.proofs.Common.{◌≡◌, ◌<◌, ◌≤◌, ◌++◌, List, length, get_or, take, arith, rules, ap, sym, ◌∙◌, subst, All, Err, ◌↔◌, below_more}
 use Rattle.std.proofs.lemmas.Grind.{common_steps}
 use Rattle.std.specs.List.{Any, AllPairs}
 use Rattle.std.proofs.lemmas.List.Elements.{All-same, All-get_or}
 use Rattle.az_lin.specs.Affine.{Affine, Polyhedron, HasEntries, Holds}
 use Rattle.az_lin.specs.Negation.{negated}
-use Rattle.az_poly.specs.Answers.{IsDifference, HasEntryNegations}
+use Rattle.az_poly.specs.Answers.{IsDifference}
 use Rattle.az_poly.specs.Operations.{piece, pieces}
 use Rattle.az_poly.proofs.Pieces.{pieces_hold, pieces_disjoint, length-pieces_from, pieces_from-step, pieces_from-done, cut_refused, negation_at}
 use Rattle.az_poly.proofs.difference.minus.Goals as goal

@@ -1,4 +1,4 @@
-use Rattle.std.proofs.Common.{◌≡◌, ap, sym, ◌∙◌, subst}
+use Rattle.std.proofs.Common.{ap, sym, ◌∙◌, subst}
 use Rattle.az_lin.specs.Affine.{Polyhedron, IsOver}
 use Rattle.az_poly.specs.Operations.{both}
 use Rattle.az_poly.proofs.Lists.{append-take-more}

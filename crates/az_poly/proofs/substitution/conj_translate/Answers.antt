@@ -1,4 +1,4 @@
-use Rattle.std.proofs.Common.{◌≡◌, ◌++◌, [], ◌∷◌, length, map, get_or, arith, rules, ap, sym, ◌∙◌, subst, All, Err}
+use Rattle.std.proofs.Common.{◌≡◌, ◌++◌, [], ◌∷◌, length, arith, rules, ap, sym, ◌∙◌, subst, All, Err}
 use Rattle.std.proofs.lemmas.List.Elements.{All-push, All-same}
 use Rattle.az_lin.specs.Affine.{Affine, HasEntries, HasWidth}
 use Rattle.az_lin.specs.Answers as linear

@@ -150,7 +150,8 @@ fn a_failed_read_names_its_file(rt: HostRuntime) -> Result<(), Fail> {
     let alloc = rt.alloc();
     let text = List::from_vec(Vec::from_slice(alloc, RAMP.as_bytes())?);
     let mut desk = desk_with(alloc, text, Some((0, 0)))?;
-    match run(alloc, &["eval", "ramp.ab"], &mut desk)?.answer {
+    let status = run(alloc, &["eval", "ramp.ab"], &mut desk)?;
+    match &status.answer {
         Outcome::ReadFault(name) => assert_eq!(rt; name.as_str(), "ramp.ab"),
         _ => assert!(rt; false),
     }

@@ -15,3 +15,6 @@ pub use fault::PolyFault;
 pub use intersection::meet;
 pub use membership::contains;
 pub use substitution::{image_by_inverse, preimage, translate};
+
+#[cfg(test)]
+mod tests;

@@ -1,0 +1,111 @@
+//! Small cases in one coordinate.
+
+ghost use Rattle.std.specs.Prelude.{◌≡◌, IfOk, length};
+
+use crate::{PolyFault, contains, image_by_inverse, meet, minus, preimage, translate};
+use az_lin::{Conj, Domain, List, Map, Row};
+use std::alloc::Global;
+use std::test::Fail;
+
+/// The row `coef * x + konst`.
+type Line = (i128, i128);
+
+fn conj(alloc: Global, first: Line, second: Line) -> Result<Conj, PolyFault>
+    ensures { IfOk result (λ conj. conj.width ≡ 1) }
+{
+    let mut rows = List::new(alloc);
+    rows.push(Row::new(alloc, &[first.0], first.1)?)?;
+    rows.push(Row::new(alloc, &[second.0], second.1)?)?;
+    Ok(Conj::new(1, rows))
+}
+
+fn domain(alloc: Global, row: Line) -> Result<Domain, PolyFault>
+    ensures { IfOk result (λ domain. domain.width ≡ 1) }
+{
+    let mut rows = List::new(alloc);
+    rows.push(Row::new(alloc, &[row.0], row.1)?)?;
+    Ok(Domain::of_conj(alloc, Conj::new(1, rows))?)
+}
+
+/// The map `y -> y + shift`.
+fn moved(alloc: Global, shift: i128) -> Result<Map, PolyFault>
+    ensures { IfOk result (λ map. length map.rows ≡ 1) }
+{
+    let mut rows = List::new(alloc);
+    rows.push(Row::new(alloc, &[1], shift)?)?;
+    Ok(Map::new(1, rows))
+}
+
+fn is(conj: &Conj, lines: &[Line]) -> bool {
+    let rows = conj.rows();
+    rows.len() == lines.len()
+        && rows.iter().zip(lines).all(|(row, line)| {
+            row.coefs() == [line.0].as_slice() && row.konst() == line.1
+        })
+}
+
+fn has_one(domain: &Domain, lines: &[Line]) -> bool {
+    match domain.disjuncts() {
+        [only] => is(only, lines),
+        _ => false,
+    }
+}
+
+#[test]
+fn cuts_an_interval_in_disjoint_pieces(rt: HostRuntime) -> Result<(), Fail> {
+    let alloc = rt.alloc();
+    let whole = conj(alloc, (1, 0), (-1, 9))?;
+    let hole = conj(alloc, (1, -3), (-1, 5))?;
+    let pieces = minus(alloc, &whole, &hole)?;
+    match pieces.as_slice() {
+        [below, above] => {
+            assert!(rt; is(below, &[(1, 0), (-1, 9), (-1, 2)]));
+            assert!(rt; is(above, &[(1, 0), (-1, 9), (1, -3), (1, -6)]));
+        }
+        _ => assert!(rt; false),
+    }
+    Ok(())
+}
+
+#[test]
+fn meets_domains(rt: HostRuntime) -> Result<(), Fail> {
+    let alloc = rt.alloc();
+    let met = meet(alloc, &domain(alloc, (1, -3))?, &domain(alloc, (-1, 9))?)?;
+    assert!(rt; has_one(&met, &[(1, -3), (-1, 9)]));
+    Ok(())
+}
+
+#[test]
+fn moves_a_domain(rt: HostRuntime) -> Result<(), Fail> {
+    let alloc = rt.alloc();
+    let from_three = domain(alloc, (1, -3))?;
+    let translated = translate(alloc, &from_three, &[2])?;
+    assert!(rt; has_one(&translated, &[(1, -5)]));
+    Ok(())
+}
+
+#[test]
+fn pulls_a_domain_back(rt: HostRuntime) -> Result<(), Fail> {
+    let alloc = rt.alloc();
+    let from_three = domain(alloc, (1, -3))?;
+    let before = preimage(alloc, &from_three, &moved(alloc, 1)?)?;
+    assert!(rt; has_one(&before, &[(1, -2)]));
+    Ok(())
+}
+
+#[test]
+fn takes_a_domain_through_a_map(rt: HostRuntime) -> Result<(), Fail> {
+    let alloc = rt.alloc();
+    let from_three = domain(alloc, (1, -3))?;
+    let image = image_by_inverse(alloc, &from_three, &moved(alloc, -1)?)?;
+    assert!(rt; has_one(&image, &[(1, -4)]));
+    Ok(())
+}
+
+#[test]
+fn holds_from_its_border_on(rt: HostRuntime) -> Result<(), Fail> {
+    let from_three = domain(rt.alloc(), (1, -3))?;
+    assert!(rt; contains(&from_three, &[3]));
+    assert!(rt; !contains(&from_three, &[2]));
+    Ok(())
+}

@@ -1,13 +1,13 @@
 -- From what was said to how the run ends.
 use Rattle.std.proofs.Common.{◌≡◌, ℕ, List, subst, sym, inl, inr, refl}
-use Rattle.std.specs.Prelude.{Option, Some, ◌⊎◌, Ok, Err}
+use Rattle.std.specs.Prelude.{Option, Ok, Err}
 use Rattle.az_desk.specs.Desk.{Reads, UnlessFailed}
 use Rattle.az_desk.specs.declared.fault.DeskFault.{DeskFault}
 use Rattle.az_desk.specs.declared.fault.DeskFault.TheVariants.{TooLong}
 use Rattle.az_desk.specs.Files.{Files}
 use Rattle.alphaz_cli.specs.declared.status.Outcome.{Outcome}
 use Rattle.alphaz_cli.specs.declared.status.Outcome.TheVariants.{Done, Usage, ReadFault, WriteFault, Text, Limited, Memory}
-use Rattle.alphaz_cli.specs.Listing.{Change, SaidWhole, IsListing, TextGives, HasText, HasLongText, TextListing, LimitListing, Ends, Evaluated, Says}
+use Rattle.alphaz_cli.specs.Listing.{Change, SaidWhole, IsListing, TextGives, HasText, HasLongText, Ends, Evaluated, Says}
 use Rattle.alphaz_cli.specs.Lines.{file_limit_line, usage_line}
 use Rattle.alphaz_cli.specs.Words.{Evaluates}
 use Rattle.az_lin.specs.declared.limit.Limit.TheVariants as limit

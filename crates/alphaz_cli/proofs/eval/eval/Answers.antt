@@ -1,4 +1,3 @@
-use Rattle.std.proofs.Common.{◌≡◌}
 use Rattle.std.specs.Prelude.{string_bytes}
 use Rattle.alphaz_cli.proofs.Endings.{after_read_text, after_read_long}
 use Rattle.alphaz_cli.proofs.eval.eval.Goals as goal

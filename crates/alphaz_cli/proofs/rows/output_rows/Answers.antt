@@ -1,12 +1,5 @@
-use Rattle.std.proofs.Common.{◌≡◌, ◌∷◌, [], ap, ◌∙◌, get_or, pos, arith, ℕ, unsigned_abs, to_z, of_z, ◌-ℤ◌, sym}
-use Rattle.std.specs.Prelude.{negsuc, neg_ℤ}
-use Rattle.std.specs.Int.{w128}
-use Rattle.std.proofs.lemmas.Int.{ints}
+use Rattle.std.proofs.Common.{◌≡◌, ◌∷◌, [], ap, ◌∙◌, get_or, pos, sym}
 use Rattle.az_ast.specs.System.{System}
-use Rattle.az_ast.specs.FirstForm.{interval}
-use Rattle.az_ast.specs.declared.expr.Expr.TheVariants.{Index}
-use Rattle.az_ast.specs.declared.program.Role.TheVariants.{Output}
-use Rattle.alphabets_read.specs.FirstForm.{Form, program_of}
 use Rattle.alphaz_cli.proofs.RowText.{written_rows, low_is, high_is}
 use Rattle.alphaz_cli.proofs.rows.output_rows.Goals as goal
 

@@ -1,10 +1,6 @@
-use Rattle.std.proofs.Common.{◌≡◌, ◌+◌, ◌∷◌, ◌++◌, [], pos, to_z, of_z, arith, rules, FitsSigned}
-use Rattle.std.specs.Int.{w64, w128}
+use Rattle.std.proofs.Common.{◌+◌, arith, rules, FitsSigned}
+use Rattle.std.specs.Int.{w128}
 use Rattle.std.specs.Prelude.{string_bytes}
-use Rattle.std.proofs.lemmas.Int.{to_z-of_z, fits_signed_from_abs}
-use Rattle.az_lin.specs.Affine.{Affine, value_at}
-use Rattle.az_ast.specs.Operators.{wrapped}
-use Rattle.az_ast.specs.OutputRows.{row_of}
 use Rattle.alphaz_cli.proofs.RowText.{next_row, word_is, row_value}
 use Rattle.alphaz_cli.proofs.rows.rows_between.Goals as goal
 

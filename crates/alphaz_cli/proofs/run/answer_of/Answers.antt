@@ -1,4 +1,3 @@
-use Rattle.std.proofs.Common.{◌≡◌}
 use Rattle.alphaz_cli.specs.Words.{texts}
 use Rattle.alphaz_cli.proofs.Endings.{ends_usage}
 use Rattle.alphaz_cli.proofs.run.answer_of.Goals as goal

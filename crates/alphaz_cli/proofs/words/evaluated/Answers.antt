@@ -1,5 +1,5 @@
 use Rattle.std.proofs.Common.{◌≡◌, codes, rules, true, ◌∙◌, sym, subst}
-use Rattle.std.specs.Prelude.{string_bytes, IsTrue}
+use Rattle.std.specs.Prelude.{IsTrue}
 use Rattle.alphaz_cli.specs.Words.{IsPlain, Evaluates, texts}
 use Rattle.alphaz_cli.proofs.Complete.{asked_by}
 use Rattle.alphaz_cli.proofs.words.evaluated.Goals as goal

@@ -1,6 +1,7 @@
 -- What a reading function returns, beside the answer of a reader on lists; want of memory may stand for
 -- any answer.
 use Rattle.std.specs.Prelude.{◌≡◌, ℕ, List, Result, Ok, Err}
+use denote.Ref.{Bor}
 use Rattle.az_text.specs.declared.token.Token.{Token}
 use Rattle.grammar_rules.specs.declared.cursor.Cursor.{Cursor}
 use Rattle.grammar_rules.specs.declared.fault.ReadError.{ReadError}
@@ -17,6 +18,13 @@ Gives (Ok found) answer = answer ≡ got found.0 found.1.rest.now found.1.budget
 Gives (Err (Syntax remaining)) answer = answer ≡ wrong remaining
 Gives (Err Size) answer = answer ≡ large
 Gives (Err Memory) answer = Unit {0}
+
+-- a text that is lent, and the cursor
+abbrev pub GivesText : Result (Bor (List ℕ) × Cursor) ReadError → Answer Token (List ℕ) → Type 0
+GivesText (Ok found) answer = answer ≡ got found.0.now found.1.rest.now found.1.budget
+GivesText (Err (Syntax remaining)) answer = answer ≡ wrong remaining
+GivesText (Err Size) answer = answer ≡ large
+GivesText (Err Memory) answer = Unit {0}
 
 -- the cursor alone
 abbrev pub Passes : Result Cursor ReadError → Answer Token (Unit {0}) → Type 0

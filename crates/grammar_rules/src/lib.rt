@@ -12,6 +12,7 @@ mod laws;
 mod sums;
 #[cfg(test)]
 mod tests;
+mod words;
 
 pub use cursor::Cursor;
 pub use ending::finish;

@@ -1,6 +1,6 @@
 //! Texts and the sums that they are, by the grammar.
 
-use crate::{ReadError, read_sum};
+use crate::{Cursor, ReadError, read_sum};
 use az_text::lex;
 use std::alloc::{AllocError, Global};
 use std::test::Fail;
@@ -77,5 +77,22 @@ fn reads_sums(rt: HostRuntime) -> Result<(), Fail> {
         count = count.wrapping_add(1);
     }
     assert_eq!(rt; count, 32);
+    Ok(())
+}
+
+#[test]
+fn reads_words_and_quoted_texts(rt: HostRuntime) -> Result<(), Fail> {
+    let alloc = rt.alloc();
+    let tokens = lex(alloc, b"let x \"a b\"").ok().ok_or("tokens")?;
+    let start = Cursor::new(tokens.as_slice(), 1).limited(9);
+    assert!(rt; start.keyword("case", 1).is_err());
+    assert!(rt; start.name(&["case", "let"], 1).is_err());
+    let after = start.keyword("let", 1).ok().ok_or("the reserved word")?;
+    assert!(rt; after.quoted(1).is_err());
+    let (name, after) = after.name(&["case", "let"], 1).ok().ok_or("a name")?;
+    assert_eq!(rt; name, "x");
+    let (text, after) = after.quoted(1).ok().ok_or("a quoted text")?;
+    assert_eq!(rt; text, "a b");
+    assert_eq!(rt; after.budget, 6);
     Ok(())
 }

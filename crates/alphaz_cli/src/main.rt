@@ -17,21 +17,19 @@ use az_desk::HostDesk;
 use std::env;
 use std::process::ExitCode;
 
-/// The status for arguments that are no text, which no word grammar takes.
-const USAGE_STATUS: u8 = 2;
+/// The status for want of memory.
+const MEMORY_STATUS: u8 = 13;
 
 fn main(rt: HostRuntime) -> ExitCode {
     let alloc = rt.alloc();
     let mut words = Vec::new(alloc);
-    match env::args(&rt) {
-        Ok(arguments) => {
-            for argument in arguments {
-                if words.push(argument).is_err() {
-                    return ExitCode::from(13);
-                }
+    // Arguments that are no text are answered as no words are: with the usage line.
+    if let Ok(arguments) = env::args(&rt) {
+        for argument in arguments {
+            if words.push(argument).is_err() {
+                return ExitCode::from(MEMORY_STATUS);
             }
         }
-        Err(_) => return ExitCode::from(USAGE_STATUS),
     }
     let mut desk = HostDesk::new(&rt);
     let words = words.as_slice();

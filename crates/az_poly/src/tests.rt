@@ -3,7 +3,7 @@
 ghost use Rattle.std.specs.Prelude.{◌≡◌, IfOk, length};
 
 use crate::{PolyFault, contains, image_by_inverse, meet, minus, preimage, translate};
-use az_lin::{Conj, Domain, List, Map, Row};
+use az_lin::{Conj, Domain, ExactRow, List, Map, Row, TryCopy};
 use std::alloc::Global;
 use std::test::Fail;
 
@@ -29,7 +29,8 @@ fn domain(alloc: Global, row: Line) -> Result<Domain, PolyFault>
 
 /// The map `y -> y + shift`.
 fn moved(alloc: Global, shift: i128) -> Result<Map, PolyFault>
-    ensures { IfOk result (λ map. length map.rows ≡ 1) }
+    ensures rows { IfOk result (λ map. length map.rows ≡ 1) }
+    ensures width { IfOk result (λ map. map.width ≡ 1) }
 {
     let mut rows = List::new(alloc);
     rows.push(Row::new(alloc, &[1], shift)?)?;
@@ -107,5 +108,20 @@ fn holds_from_its_border_on(rt: HostRuntime) -> Result<(), Fail> {
     let from_three = domain(rt.alloc(), (1, -3))?;
     assert!(rt; contains(&from_three, &[3]));
     assert!(rt; !contains(&from_three, &[2]));
+    Ok(())
+}
+
+#[test]
+fn copies_composes_and_applies_maps(rt: HostRuntime) -> Result<(), Fail> {
+    let alloc = rt.alloc();
+    let up = moved(alloc, 1)?;
+    let mut image = [0];
+    up.apply(&[5], &mut image);
+    assert_eq!(rt; image, [6]);
+    let twice = up.copy(alloc)?.compose(alloc, &up)?;
+    match twice.rows() {
+        [row] => assert_eq!(rt; ExactRow::from_row(alloc, row)?.konst(), 2),
+        _ => assert!(rt; false),
+    }
     Ok(())
 }

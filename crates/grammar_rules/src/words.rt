@@ -49,7 +49,7 @@ impl<'a> Cursor<'a> {
 
     /// A word that is none of the reserved ones.
     pub fn name(self, reserved: &[&str], weight: u32) -> Result<(&'a str, Cursor<'a>), ReadError>
-        requires { length reserved.now < 1000 }
+        requires { 26 + length reserved.now < 2 ^ 32 }
         ensures { GivesText result (read_token (name_of (map (λ one. one.now) reserved.now)) weight self.entry.budget self.entry.rest.now) }
     {
         match self.rest.split_first() {

@@ -1,5 +1,5 @@
 -- Of a row and its negation exactly one is at least 0 at a whole point.
-use Rattle.std.proofs.Common.{◌≡◌, ◌+◌, ◌*◌, arith, ℤ, pos, ◌+ℤ◌, ◌*ℤ◌, ◌-ℤ◌, ◌≤ℤ◌, List, [], ◌∷◌, map, ap, refl, ◌↔◌}
+use Rattle.std.proofs.Common.{◌≡◌, ◌*◌, arith, ℤ, pos, ◌*ℤ◌, ◌-ℤ◌, List, [], ◌∷◌, map, ap, refl, ◌↔◌}
 use Rattle.std.proofs.lemmas.Int.{ints, by_lt_z}
 use borrow.Author.Differences.{up, down, neg_is}
 use lib.IntN.{neg_ℤ}

@@ -1,15 +1,14 @@
 -- What shifting and composing do to the value of a row.
-use Rattle.std.proofs.Common.{◌≡◌, ℕ, ◌*◌, ◌<◌, arith, ℤ, pos, ◌+ℤ◌, ◌*ℤ◌, ◌-ℤ◌, List, [], ◌∷◌, length, get_or, map, All, ap, refl, sym, ◌∙◌, subst}
+use Rattle.std.proofs.Common.{◌≡◌, ℕ, ◌*◌, arith, ℤ, pos, ◌+ℤ◌, ◌*ℤ◌, ◌-ℤ◌, List, [], ◌∷◌, length, get_or, map, All, ap, refl, sym, ◌∙◌}
 use Rattle.std.specs.List.{range_with_len}
 use Rattle.std.proofs.lemmas.Int.{ints}
 use borrow.Author.Differences.{up, down, neg_is}
 use lib.IntN.{neg_ℤ}
 use Rattle.std.proofs.lemmas.List.FromFn.{fill_by_all, length-map-range_with_len}
-use Rattle.std.proofs.lemmas.List.Elements.{All-head, All-tail, All-map, All-get_or}
-use Rattle.std.proofs.lemmas.List.{get_or-map, length-map}
+use Rattle.std.proofs.lemmas.List.Elements.{All-head, All-tail, All-map}
 use Rattle.az_lin.proofs.Integers.{mul-add_int, add-mul_int, mul_assoc_int}
-use Rattle.az_lin.specs.Affine.{Affine, AffineMap, HasWidth, HasEntries, dot, value_at, image_of}
-use Rattle.az_lin.specs.Substitution.{less, shifted, column, constants, composed, composed_map, HasEntryRows}
+use Rattle.az_lin.specs.Affine.{Affine, AffineMap, HasWidth, dot, value_at, image_of}
+use Rattle.az_lin.specs.Substitution.{less, shifted, column, constants, composed, composed_map}
 
 mul_neg : (c v : ℤ) → c *ℤ neg_ℤ v ≡ neg_ℤ (c *ℤ v)
 mul_neg c v =

@@ -3,7 +3,7 @@
 ghost use Rattle.std.specs.Prelude.{◌≡◌, ◌<◌, length, All, IfOk, IfErr, SomeIff, map, slice_get, pos, ◌<ℤ◌};
 ghost use Rattle.std.specs.Int.{int_div_euclid};
 ghost use Rattle.az_lin.specs.Affine.{Affine, IsWide};
-ghost use Rattle.az_lin.specs.Combination.{combination, IsWideCombination, quotient};
+ghost use Rattle.az_lin.specs.Combination.{HasWideEntries, combination, IsWideCombination, quotient};
 ghost use Rattle.az_lin.specs.declared.fault.LinFault.TheVariants.{Memory};
 
 use crate::scaled_sum::{sum_of_scaled, sums_of_scaled};
@@ -31,6 +31,15 @@ impl Model for ExactRow {
 }
 
 impl ExactRow {
+    pub fn new(alloc: Global, coefs: &[i128], konst: i128) -> Result<ExactRow, LinFault>
+        requires { HasWideEntries (record { coefs = coefs.now; konst = konst }) }
+        ensures ok { IfOk result (λ row. row ≡ record { coefs = coefs.now; konst = konst }) }
+        ensures cause { IfErr result (λ fault. fault ≡ Memory) }
+    {
+        let coefs = SmallVec::from_slice(alloc, coefs)?;
+        Ok(ExactRow { coefs, konst })
+    }
+
     pub fn from_row(alloc: Global, row: &Row) -> Result<ExactRow, LinFault>
         ensures ok { IfOk result (λ copied. copied ≡ row.now) }
         ensures cause { IfErr result (λ fault. fault ≡ Memory) }

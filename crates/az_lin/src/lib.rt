@@ -32,5 +32,5 @@ pub use map::Map;
 pub use name::Name;
 pub use row::Row;
 pub use row_view::RowView;
-pub use scaled_sum::Weights;
+pub use scaled_sum::{Weights, wide_product, wide_sum};
 pub use step::{Derivation, RatPoint, Step};

@@ -15,7 +15,8 @@ pub struct Weights {
     pub b: i128,
 }
 
-pub(crate) fn wide_product(x: i128, y: i128) -> Option<i128>
+/// The product, or `None` exactly where it leaves ±(2^127 - 1).
+pub fn wide_product(x: i128, y: i128) -> Option<i128>
     ensures { SomeIff result (IsWide (x *ℤ y)) (x *ℤ y) }
 {
     match x.checked_mul(y) {
@@ -24,7 +25,8 @@ pub(crate) fn wide_product(x: i128, y: i128) -> Option<i128>
     }
 }
 
-pub(crate) fn wide_sum(x: i128, y: i128) -> Option<i128>
+/// The sum, or `None` exactly where it leaves ±(2^127 - 1).
+pub fn wide_sum(x: i128, y: i128) -> Option<i128>
     ensures { SomeIff result (IsWide (x +ℤ y)) (x +ℤ y) }
 {
     match x.checked_add(y) {

@@ -1,6 +1,4 @@
-use Rattle.std.proofs.Common.{◌≡◌, ◌++◌, [], ◌∷◌, ◌<◌, ℕ, List, length, map, take, get_or, arith, rules, ap, sym, ◌∙◌, subst, All, Err}
-use Rattle.std.proofs.Math.Seq.{take-length}
-use Rattle.std.proofs.lemmas.List.{map-append, take_more}
+use Rattle.std.proofs.Common.{◌≡◌, ◌++◌, [], ◌∷◌, length, arith, rules, ap, sym, ◌∙◌, subst, All, Err}
 use Rattle.std.proofs.lemmas.List.Elements.{All-push, All-same}
 use Rattle.az_lin.specs.Affine.{Affine, AffineMap, HasEntries, HasWidth, image_of}
 use Rattle.az_lin.specs.Answers.{IsExactly}

@@ -1,4 +1,4 @@
-use Rattle.std.proofs.Common.{◌≡◌, ◌+◌, ◌++◌, [], ◌∷◌, rules, arith, map, get_or, pos, ap, sym, ◌∙◌, ◌-ℤ◌, to_z, of_z, subst, length, ◌↔◌}
+use Rattle.std.proofs.Common.{◌≡◌, ◌++◌, [], ◌∷◌, rules, arith, pos, ◌-ℤ◌, to_z, of_z, subst, length, ◌↔◌}
 use lib.IntN.{neg_ℤ}
 use Rattle.std.specs.Int.{w128}
 use Rattle.std.proofs.lemmas.Int.{ints}

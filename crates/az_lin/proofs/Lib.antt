@@ -8,3 +8,9 @@ pub mod Integers
 pub mod DivisorLaws
 pub mod WideSums
 pub mod StepLaws
+pub mod Clearing
+pub mod TableauSteps
+pub mod Fractions
+pub mod Pivots
+pub mod InverseRows
+pub mod InversionEnd

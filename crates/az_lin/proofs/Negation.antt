@@ -6,7 +6,7 @@ use lib.IntN.{neg_ℤ}
 use Rattle.az_lin.specs.Affine.{Affine, IsAtLeastZero, dot, value_at}
 use Rattle.az_lin.specs.Negation.{negated}
 
-neg_mul : (v c : ℤ) → neg_ℤ v *ℤ c ≡ neg_ℤ (v *ℤ c)
+pub neg_mul : (v c : ℤ) → neg_ℤ v *ℤ c ≡ neg_ℤ (v *ℤ c)
 neg_mul v c =
     omega (arith, ints, ap (λ n. up c * n) (neg_is v).0, ap (λ n. down c * n) (neg_is v).0, ap (λ n. up c * n) (neg_is v).1, ap (λ n. down c * n) (neg_is v).1)
 

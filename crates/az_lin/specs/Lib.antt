@@ -6,3 +6,5 @@ pub mod CommonDivisor
 pub mod Combination
 pub mod Derivation
 pub mod RationalPoint
+pub mod Inversion
+pub mod InversionAnswer

@@ -9,6 +9,8 @@ mod copy;
 mod domain;
 mod exact_row;
 mod fault;
+mod fraction;
+mod invert;
 mod limit;
 mod list;
 mod map;
@@ -19,6 +21,7 @@ mod row_view;
 mod scalar;
 mod scaled_sum;
 mod step;
+mod tableau;
 
 pub use common_divisor::{gcd, gcd_all};
 pub use conj::Conj;

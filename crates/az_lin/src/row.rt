@@ -49,7 +49,7 @@ fn negative(entry: &i128) -> i128
 }
 
 /// Whether a row may have these coefficients and this constant.
-fn are_entries(coefs: &[i128], konst: i128) -> bool
+pub(crate) fn are_entries(coefs: &[i128], konst: i128) -> bool
     ensures { IsTrue result ↔ HasEntries (record { coefs = coefs.now; konst = konst }) }
 {
     is_entry(konst) && coefs.iter().all(|coef| is_entry(*coef))

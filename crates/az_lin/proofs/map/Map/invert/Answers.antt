@@ -1,0 +1,74 @@
+use Rattle.std.proofs.Common.{◌≡◌, ◌+◌, ◌*◌, ◌<◌, ◌∙◌, [], sym, ap, subst, ℕ, pos, length, All, List, false, true, arith, rules}
+use Rattle.std.proofs.lemmas.Bool.{false≢true}
+use Rattle.std.proofs.lemmas.List.Elements.{All-same}
+use Rattle.az_lin.specs.Affine.{Affine, HasWidth}
+use Rattle.az_lin.specs.Inversion.{Tableau, HavePivots, final, inverse_numerators}
+use Rattle.az_lin.proofs.InversionEnd.{final_sound, final_pivots, rest_some, rest_none, IsSound, length-inverse_numerators}
+use Rattle.az_lin.proofs.map.Map.invert.Goals as goal
+
+widths_of : (params width : ℕ) (rows counted : List Affine) → width ≡ params + length rows → counted ≡ rows → All (HasWidth width) counted → All (HasWidth (params + length rows)) rows
+widths_of params width rows counted square same h = subst (λ w. All (HasWidth w) rows) square (subst (All (HasWidth width)) same h)
+
+pub eliminated-requires-clause-widths : goal.eliminated-requires-clause-widths
+eliminated-requires-clause-widths c = widths_of c.args.params c.args.self.now.width c.args.self.now.rows c.rows-count.result.now c.requires.square c.rows-count.ensures.value c.rows-count.ensures.widths
+
+pub kernel-requires-clause-pivots : goal.kernel-requires-clause-pivots
+kernel-requires-clause-pivots c =
+    let rows = c.args.self.now.rows in
+    let wide = widths_of c.args.params c.args.self.now.width rows c.rows-count.result.now c.requires.square c.rows-count.ensures.value c.rows-count.ensures.widths in
+    let found = rw c.in-Some.is at c.in_ok-reduced.ensures.exact in
+    subst (λ (t : Tableau). HavePivots 0 t.pivots) (sym found.1) (final_pivots c.args.params rows wide)
+
+pub kernel-requires-clause-widths : goal.kernel-requires-clause-widths
+kernel-requires-clause-widths c =
+    let rows = c.args.self.now.rows in
+    let wide = widths_of c.args.params c.args.self.now.width rows c.rows-count.result.now c.requires.square c.rows-count.ensures.value c.rows-count.ensures.widths in
+    let found = rw c.in-Some.is at c.in_ok-reduced.ensures.exact in
+    let sound : IsSound (length rows) c.in-Some.reduced = subst (IsSound (length rows)) (sym found.1) (final_sound c.args.params rows wide) in
+    subst (λ m. All (λ (row : Affine). length row.coefs ≡ m + m) c.in-Some.reduced.pivots) (sym (ap length c.rows-count.ensures.value)) sound.size.pivot_widths
+
+pub kernel-requires-clause-short : goal.kernel-requires-clause-short
+kernel-requires-clause-short c =
+    let rows = c.args.self.now.rows in
+    let wide = widths_of c.args.params c.args.self.now.width rows c.rows-count.result.now c.requires.square c.rows-count.ensures.value c.rows-count.ensures.widths in
+    let found = rw c.in-Some.is at c.in_ok-reduced.ensures.exact in
+    let sound : IsSound (length rows) c.in-Some.reduced = subst (IsSound (length rows)) (sym found.1) (final_sound c.args.params rows wide) in
+    let short : length c.in-Some.reduced.pivots < length rows =
+    rest_some (length rows) c.in-Some.reduced sound.size (λ none. false≢true (sym c.if-not-is_whole.true ∙ c.is_whole.ensures.1 none)) in
+    omega (arith, short, ap length c.rows-count.ensures.value)
+
+pub inverse_over-requires-clause-pivots : goal.inverse_over-requires-clause-pivots
+inverse_over-requires-clause-pivots c =
+    let rows = c.args.self.now.rows in
+    let wide = widths_of c.args.params c.args.self.now.width rows c.rows-count.result.now c.requires.square c.rows-count.ensures.value c.rows-count.ensures.widths in
+    let found = rw c.in-Some.is at c.in_ok-reduced.ensures.exact in
+    subst (λ (t : Tableau). HavePivots 0 t.pivots) (sym found.1) (final_pivots c.args.params rows wide)
+
+pub inverse_over-requires-clause-widths : goal.inverse_over-requires-clause-widths
+inverse_over-requires-clause-widths c =
+    let rows = c.args.self.now.rows in
+    let wide = widths_of c.args.params c.args.self.now.width rows c.rows-count.result.now c.requires.square c.rows-count.ensures.value c.rows-count.ensures.widths in
+    let found = rw c.in-Some.is at c.in_ok-reduced.ensures.exact in
+    let sound : IsSound (length rows) c.in-Some.reduced = subst (IsSound (length rows)) (sym found.1) (final_sound c.args.params rows wide) in
+    subst (λ m. All (λ (row : Affine). length row.coefs ≡ m + m) c.in-Some.reduced.pivots) (sym (ap length c.rows-count.ensures.value)) sound.size.pivot_widths
+
+pub inverse_over-requires-clause-full : goal.inverse_over-requires-clause-full
+inverse_over-requires-clause-full c =
+    let rows = c.args.self.now.rows in
+    let wide = widths_of c.args.params c.args.self.now.width rows c.rows-count.result.now c.requires.square c.rows-count.ensures.value c.rows-count.ensures.widths in
+    let found = rw c.in-Some.is at c.in_ok-reduced.ensures.exact in
+    let sound : IsSound (length rows) c.in-Some.reduced = subst (IsSound (length rows)) (sym found.1) (final_sound c.args.params rows wide) in
+    rest_none (length rows) c.in-Some.reduced sound.size (c.is_whole.ensures.0 c.if-not-is_whole.false) ∙ sym (ap length c.rows-count.ensures.value)
+
+pub inverse-requires-clause-numbers : goal.inverse-requires-clause-numbers
+inverse-requires-clause-numbers c =
+    let rows = c.args.self.now.rows in
+    let wide = widths_of c.args.params c.args.self.now.width rows c.rows-count.result.now c.requires.square c.rows-count.ensures.value c.rows-count.ensures.widths in
+    let found = rw c.in-Some.is at c.in_ok-reduced.ensures.exact in
+    let sound : IsSound (length rows) c.in-Some.reduced = subst (IsSound (length rows)) (sym found.1) (final_sound c.args.params rows wide) in
+    let over = rw c.in-Some-3.is at c.in_ok-nums.ensures.exact in
+    let counted : length c.rows-count.result.now ≡ length rows = ap length c.rows-count.ensures.value in
+    let n = c.rows-count.result.now in
+    ap length (c.as_slice.ensures.value ∙ sym (ap (λ q. q.nums.items) c.in-Some-3.field-0-is) ∙ over.2)
+    ∙ ap (λ m. length (inverse_numerators m c.in-Some.reduced)) counted
+    ∙ length-inverse_numerators (length rows) c.in-Some.reduced sound.size (rest_none (length rows) c.in-Some.reduced sound.size (c.is_whole.ensures.0 c.if-not-is_whole.false))

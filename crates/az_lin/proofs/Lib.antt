@@ -14,3 +14,4 @@ pub mod Fractions
 pub mod Pivots
 pub mod InverseRows
 pub mod InversionEnd
+pub mod Undone

@@ -27,13 +27,13 @@ dot-less (c ∷ cs) (z ∷ zs) (v ∷ vs) same = omega (arith, ints, mul_less c 
 pub value_at-shifted : (row : Affine) (z v : List ℤ) → length z ≡ length v → value_at (shifted row v) z ≡ value_at row (less z v)
 value_at-shifted row z v same = omega (arith, ints, dot-less row.coefs z v same)
 
-dot-zeros : (js : List ℕ) (z : List ℤ) → dot (map (λ j. pos 0) js) z ≡ pos 0
+pub dot-zeros : (js : List ℕ) (z : List ℤ) → dot (map (λ j. pos 0) js) z ≡ pos 0
 dot-zeros [] z = refl
 dot-zeros (j ∷ js) [] = refl
 dot-zeros (j ∷ js) (x ∷ z) = omega (arith, ints, dot-zeros js z)
 
 -- the product of a sum of multiples is the sum of the multiples of products
-dot-linear : (c : ℤ) (g h : ℕ → ℤ) (js : List ℕ) (z : List ℤ)
+pub dot-linear : (c : ℤ) (g h : ℕ → ℤ) (js : List ℕ) (z : List ℤ)
     → dot (map (λ j. (c *ℤ g j) +ℤ h j) js) z ≡ (c *ℤ dot (map g js) z) +ℤ dot (map h js) z
 dot-linear c g h [] z = omega (arith, ints)
 dot-linear c g h (j ∷ js) [] = omega (arith, ints)

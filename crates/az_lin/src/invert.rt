@@ -1,9 +1,9 @@
 //! The inversion of a square map: the map that undoes it, or why there is none.
 
-ghost use Rattle.std.specs.Prelude.{◌≡◌, ◌<◌, ◌≤◌, ◌+◌, ◌*◌, [], pos, length, All, IfOk, IfErr, SomeIff, MatchOption, option_map};
-ghost use Rattle.az_lin.specs.Affine.{IsWide, HasWidth, HasEntries};
+ghost use Rattle.std.specs.Prelude.{◌≡◌, ◌<◌, ◌≤◌, ◌+◌, ◌*◌, ◌++◌, [], pos, length, All, IfOk, IfErr, SomeIff, MatchOption, option_map};
+ghost use Rattle.az_lin.specs.Affine.{IsWide, HasWidth, HasEntries, image_of};
 ghost use Rattle.az_lin.specs.Answers.{IsExactly};
-ghost use Rattle.az_lin.specs.Substitution.{HasEntryRows};
+ghost use Rattle.az_lin.specs.Substitution.{Point, HasEntryRows};
 ghost use Rattle.az_lin.specs.Inversion.{HavePivots, start, final, ReducesWide, kernel_vector, inverse_denominator, inverse_numerators, inverse_row, inverse_rows};
 ghost use Rattle.az_lin.specs.InversionAnswer.{EndsWide, IsInversion};
 ghost use Rattle.az_lin.specs.declared.fault.LinFault.TheVariants.{Memory};
@@ -130,6 +130,8 @@ impl Map {
         requires square { self.now.width ≡ params + length self.now.rows }
         requires narrow { self.now.width ≤ 64 }
         ensures exact { IsInversion params self.now result }
+        ensures undone { (p z : Point) → length p ≡ params → length z ≡ length self.now.rows
+            → IfOk result (λ inverse. image_of inverse (p ++ image_of self.now (p ++ z)) ≡ z) }
     {
         let count = self.rows().len();
         let Some(reduced) = eliminated(alloc, params, self)? else {

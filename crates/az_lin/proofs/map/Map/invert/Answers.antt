@@ -4,6 +4,8 @@ use Rattle.std.proofs.lemmas.List.Elements.{All-same}
 use Rattle.az_lin.specs.Affine.{Affine, HasWidth}
 use Rattle.az_lin.specs.Inversion.{Tableau, HavePivots, final, inverse_numerators}
 use Rattle.az_lin.proofs.InversionEnd.{final_sound, final_pivots, rest_some, rest_none, IsSound, length-inverse_numerators}
+use Rattle.az_lin.specs.InversionAnswer.{IsInversion}
+use Rattle.az_lin.proofs.Undone.{ok_undoes}
 use Rattle.az_lin.proofs.map.Map.invert.Goals as goal
 
 widths_of : (params width : ℕ) (rows counted : List Affine) → width ≡ params + length rows → counted ≡ rows → All (HasWidth width) counted → All (HasWidth (params + length rows)) rows
@@ -72,3 +74,9 @@ inverse-requires-clause-numbers c =
     ap length (c.as_slice.ensures.value ∙ sym (ap (λ q. q.nums.items) c.in-Some-3.field-0-is) ∙ over.2)
     ∙ ap (λ m. length (inverse_numerators m c.in-Some.reduced)) counted
     ∙ length-inverse_numerators (length rows) c.in-Some.reduced sound.size (rest_none (length rows) c.in-Some.reduced sound.size (c.is_whole.ensures.0 c.if-not-is_whole.false))
+
+pub returns-then-den-eq1-clause-undone : goal.returns-then-den-eq1-clause-undone
+returns-then-den-eq1-clause-undone c =
+    let wide = widths_of c.args.params c.args.self.now.width c.args.self.now.rows c.rows-count.result.now c.requires.square c.rows-count.ensures.value c.rows-count.ensures.widths in
+    let exact : IsInversion c.args.params c.args.self.now c.inverse.result = search rules in
+    λ p z long count. ok_undoes c.args.params c.args.self.now c.inverse.result p z wide exact long count

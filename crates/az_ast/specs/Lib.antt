@@ -5,8 +5,12 @@ pub mod Meaning
 pub mod Nodes
 pub mod Operators
 pub mod OutputRows
+pub mod Placed
 pub mod Plain
 pub mod Points
+pub mod Shapes
 pub mod System
 pub mod Tables
 pub mod Term
+pub mod Walks
+pub mod Writable

@@ -7,3 +7,4 @@ pub mod ReadLemmas
 pub mod TableLemmas
 pub mod Terms
 pub mod ValueLemmas
+pub mod Walks

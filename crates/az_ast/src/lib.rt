@@ -13,6 +13,7 @@ mod point;
 mod program;
 mod reason;
 mod table;
+mod walk;
 #[cfg(test)]
 mod tests;
 
@@ -25,3 +26,4 @@ pub use plain::{Found, value_to};
 pub use program::{Equation, Program, Role, Variable};
 pub use reason::Reason;
 pub use table::Table;
+pub use walk::{PartTest, is_under, nodes_left, some_part};

@@ -1,3 +1,4 @@
+pub mod DomainLists
 pub mod Laws
 pub mod MapLemmas
 pub mod Members

@@ -8,7 +8,7 @@ use Rattle.std.specs.Option.{option_or, option_map_or}
 use Rattle.std.specs.List.{list_all, list_any}
 use Rattle.std.specs.Char.{is_ascii_digit}
 use Rattle.std.specs.Str.{bytes_eq}
-use Rattle.az_lin.specs.Affine.{Union}
+use Rattle.az_lin.specs.Affine.{AffineMap, Union}
 use Rattle.az_lin.specs.declared.limit.Limit.TheVariants.{Names, Columns, Size, Disjuncts}
 use Rattle.az_ast.specs.declared.fault.ShapeFault.{ShapeFault}
 use Rattle.az_ast.specs.declared.fault.ShapeFault.TheVariants.{Shape, Limit}
@@ -32,11 +32,13 @@ first_of (row ∷ rest) = if row.0 then Some row.1 else first_of rest
 
 -- the limits
 
-abbrev pub indices : System → Variable → ℕ
-indices p variable = variable.domain.width - length p.params
+-- the number of a variable's indices, after so many parameters
+abbrev pub indices : ℕ → Variable → ℕ
+indices params variable = variable.domain.width - params
 
-abbrev pub of_variable : System → (Variable → Bool) → ℕ → Bool
-of_variable p test x = option_map_or test (slice_get p.variables x) false
+-- a test of the variable with this number
+abbrev pub of_variable : List Variable → (Variable → Bool) → ℕ → Bool
+of_variable variables test x = option_map_or test (slice_get variables x) false
 
 -- the parameter domain, those of the variables and those in the equations
 abbrev pub all_domains : System → List Union
@@ -45,11 +47,14 @@ all_domains p = p.pdom ∷ (map (λ variable. variable.domain) p.variables ++ fl
 abbrev pub has_many_names : System → Bool
 has_many_names p = nat_lt 256 (length p.variables) || nat_lt 8 (length p.params)
 
-abbrev pub stands_under_many : System → Equation → Bool
-stands_under_many p equation = of_variable p (λ variable. nat_lt 16 (indices p variable + extra_under (term equation.body))) equation.variable
+abbrev pub stands_under_many : ℕ → List Variable → Equation → Bool
+stands_under_many params variables equation =
+    of_variable variables (λ variable. nat_lt 16 (indices params variable + extra_under (term equation.body))) equation.variable
 
 abbrev pub has_many_columns : System → Bool
-has_many_columns p = list_any (λ variable. nat_lt 8 (indices p variable)) p.variables || list_any (stands_under_many p) p.equations
+has_many_columns p =
+    let params = length p.params in
+    list_any (λ variable. nat_lt 8 (indices params variable)) p.variables || list_any (stands_under_many params p.variables) p.equations
 
 abbrev pub has_many_nodes : System → Bool
 has_many_nodes p = list_any (λ equation. nat_lt 512 (nodes (term equation.body))) p.equations
@@ -84,14 +89,17 @@ declaration_kind earlier variable =
     first_of
     ((is_index_name variable.name, Reserved) ∷ (list_any (λ other. bytes_eq other.name variable.name) earlier, TwiceName) ∷ [])
 
-abbrev pub has_other_arity : System → Term → Bool
-has_other_arity p (constant c) = false
-has_other_arity p (index row) = false
-has_other_arity p (access x f) = of_variable p (λ variable. not (length f.rows == indices p variable)) x
-has_other_arity p (negation e) = false
-has_other_arity p (binary op a b) = false
-has_other_arity p (cases branches) = false
-has_other_arity p (reduction op extra domain e) = false
+abbrev pub arity_differs : ℕ → List Variable → ℕ → AffineMap → Bool
+arity_differs params variables x f = of_variable variables (λ variable. not (length f.rows == indices params variable)) x
+
+abbrev pub has_other_arity : ℕ → List Variable → Term → Bool
+has_other_arity params variables (constant c) = false
+has_other_arity params variables (index row) = false
+has_other_arity params variables (access x f) = arity_differs params variables x f
+has_other_arity params variables (negation e) = false
+has_other_arity params variables (binary op a b) = false
+has_other_arity params variables (cases branches) = false
+has_other_arity params variables (reduction op extra domain e) = false
 
 abbrev pub is_input : Role → Bool
 is_input Input = true
@@ -121,8 +129,8 @@ reduces_by_sub (reduction op extra domain e) = is_sub op
 abbrev pub equation_kind : System → List Equation → Equation → Option ShapeKind
 equation_kind p earlier equation =
     first_of
-    ((list_any (has_other_arity p) (parts (term equation.body)), Arity)
-    ∷ (of_variable p (λ variable. is_input variable.role) equation.variable, InputEquation)
+    ((list_any (has_other_arity (length p.params) p.variables) (parts (term equation.body)), Arity)
+    ∷ (of_variable p.variables (λ variable. is_input variable.role) equation.variable, InputEquation)
     ∷ (list_any (λ other. other.variable == equation.variable) earlier, TwoEquations)
     ∷ (list_any reduces_by_sub (parts (term equation.body)), BadReduce) ∷ [])
 

@@ -1,6 +1,6 @@
 -- Walks over an expression: its parts, itself first and then in order of evaluation; the accesses among
 -- them; the domains of branches and reductions; and how many indices of reductions a part stands under.
-use Rattle.std.specs.Prelude.{ℕ, ◌+◌, max, List, [], ◌∷◌, ◌++◌, flat_map}
+use Rattle.std.specs.Prelude.{ℕ, ◌+◌, max, nat_lt, Bool, ◌||◌, List, [], ◌∷◌, ◌++◌, length, flat_map}
 use Rattle.az_lin.specs.Affine.{AffineMap, Union}
 use Rattle.az_ast.specs.Term.{Term, constant, index, access, negation, binary, cases, reduction, Choices, none, choice}
 
@@ -47,6 +47,10 @@ own_domains (reduction op extra domain e) = domain ∷ []
 
 abbrev pub domains : Term → List Union
 domains t = flat_map own_domains (parts t)
+
+-- a number of disjuncts outside these bounds
+abbrev pub is_outside : ℕ → ℕ → Union → Bool
+is_outside least most domain = nat_lt (length domain.disjuncts) least || nat_lt most (length domain.disjuncts)
 
 -- the most extra indices, of all reductions around it together, that a part stands under
 abbrev mutual

@@ -4,22 +4,28 @@
 #![tactic(auto)]
 
 mod checked;
+mod draft;
 mod expr;
 mod fault;
+mod index_name;
 mod inputs;
+mod limits;
 mod op;
+mod part_tests;
 mod plain;
 mod point;
 mod program;
 mod reason;
+mod shape;
 mod table;
-mod walk;
 #[cfg(test)]
 mod tests;
+mod walk;
 
 pub use checked::Checked;
 pub use expr::{Branch, Expr};
 pub use fault::{ShapeFault, ShapeKind};
+pub use index_name::is_index_name;
 pub use inputs::{Inputs, Values};
 pub use op::{Op, apply_op, identity_of, wrap};
 pub use plain::{Found, value_to};

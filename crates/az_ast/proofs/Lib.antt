@@ -1,4 +1,6 @@
+pub mod DistinctNumbers
 pub mod DomainLists
+pub mod ItemSteps
 pub mod Laws
 pub mod MapLemmas
 pub mod Members

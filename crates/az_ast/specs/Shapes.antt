@@ -126,11 +126,11 @@ reduces_by_sub (cases branches) = false
 reduces_by_sub (reduction op extra domain e) = is_sub op
 
 -- an equation after others
-abbrev pub equation_kind : System → List Equation → Equation → Option ShapeKind
-equation_kind p earlier equation =
+abbrev pub equation_kind : ℕ → List Variable → List Equation → Equation → Option ShapeKind
+equation_kind params variables earlier equation =
     first_of
-    ((list_any (has_other_arity (length p.params) p.variables) (parts (term equation.body)), Arity)
-    ∷ (of_variable p.variables (λ variable. is_input variable.role) equation.variable, InputEquation)
+    ((list_any (has_other_arity params variables) (parts (term equation.body)), Arity)
+    ∷ (of_variable variables (λ variable. is_input variable.role) equation.variable, InputEquation)
     ∷ (list_any (λ other. other.variable == equation.variable) earlier, TwoEquations)
     ∷ (list_any reduces_by_sub (parts (term equation.body)), BadReduce) ∷ [])
 
@@ -145,7 +145,8 @@ kinds_after kind earlier [] = []
 kinds_after kind earlier (item ∷ rest) = kind earlier item ∷ kinds_after kind (earlier ++ item ∷ []) rest
 
 abbrev pub item_kinds : System → List (Option ShapeKind)
-item_kinds p = header_kind p.params ∷ (kinds_after declaration_kind [] p.variables ++ kinds_after (equation_kind p) [] p.equations)
+item_kinds p =
+    header_kind p.params ∷ (kinds_after declaration_kind [] p.variables ++ kinds_after (equation_kind (length p.params) p.variables) [] p.equations)
 
 abbrev pub missing_kinds : List Equation → ℕ → List Variable → List (Option ShapeKind)
 missing_kinds equations x [] = []

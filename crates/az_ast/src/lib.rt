@@ -9,6 +9,7 @@ mod expr;
 mod fault;
 mod index_name;
 mod inputs;
+mod items;
 mod limits;
 mod op;
 mod part_tests;

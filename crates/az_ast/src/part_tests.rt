@@ -12,6 +12,7 @@ use crate::{Branch, Expr, Variable};
 use az_lin::{Domain, Map};
 
 /// An access with another number of indices than the variable has.
+#[derive(Drop)]
 pub(crate) struct OtherArity<'a> {
     pub params: usize,
     pub variables: &'a [Variable],
@@ -42,6 +43,7 @@ impl PartTest for OtherArity<'_> {
 }
 
 /// A reduction by difference.
+#[derive(Drop)]
 pub(crate) struct BadReduction;
 
 impl PartTest for BadReduction {
@@ -56,6 +58,7 @@ impl PartTest for BadReduction {
 }
 
 /// A domain whose number of disjuncts lies outside these bounds.
+#[derive(Drop)]
 pub(crate) struct OutsideBounds {
     pub least: usize,
     pub most: usize,

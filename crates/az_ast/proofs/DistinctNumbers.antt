@@ -10,16 +10,13 @@ use Rattle.az_ast.specs.declared.program.Equation.{Equation}
 use Rattle.az_ast.specs.declared.program.Variable.{Variable}
 use Rattle.az_ast.specs.declared.fault.ShapeKind.{ShapeKind}
 use Rattle.az_ast.specs.declared.fault.ShapeKind.TheVariants.{Arity, InputEquation, TwoEquations, BadReduce}
-use Rattle.az_ast.specs.Shapes.{first_of, equation_kind, has_other_arity, of_variable, is_input, reduces_by_sub}
+use Rattle.az_ast.specs.Shapes.{equation_kind, has_other_arity, of_variable, is_input, reduces_by_sub}
 use Rattle.az_ast.specs.Term.{term}
 use Rattle.az_ast.specs.Walks.{parts}
+use Rattle.az_ast.proofs.ShapeParts.{none_holds, neither, equation_tests}
 
 abbrev pub numbers : List Equation → List ℕ
 numbers equations = map (λ (e : Equation). e.variable) equations
-
-neither : (a b : Bool) → (a || b) ≡ false → (a ≡ false) × (b ≡ false)
-neither true b e = cc
-neither false b e = (refl, e)
 
 either : (a b : Bool) → (a || b) ≡ true → (a ≡ true) ⊎ (b ≡ true)
 either true b e = inl refl
@@ -43,12 +40,6 @@ differ : (equations : List Equation) (y : ℕ) → list_any (λ (e : Equation). 
 differ [] y h = tt
 differ (e ∷ equations) y h = let n = neither (e.variable == y) (list_any (λ (e : Equation). e.variable == y) equations) h in (n.0, differ equations y n.1)
 
-third_fails : {A : Type 0} (a b c d : Bool) (i j k l : A) → first_of ((a, i) ∷ (b, j) ∷ (c, k) ∷ (d, l) ∷ []) ≡ None → c ≡ false
-third_fails true b c d i j k l e = cc
-third_fails false true c d i j k l e = cc
-third_fails false false true d i j k l e = cc
-third_fails false false false d i j k l e = refl
-
 module _ (params : ℕ) (variables : List Variable) (equations : List Equation) where
   -- one more equation without a fault
   pub distinct_more :
@@ -56,8 +47,7 @@ module _ (params : ℕ) (variables : List Variable) (equations : List Equation) 
       IsDistinct ◌==◌ (numbers (take i equations)) → IsDistinct ◌==◌ (numbers (take (i + 1) equations))
   distinct_more i e within here kind d =
       subst (IsDistinct ◌==◌) (sym (map_more (λ (q : Equation). q.variable) equations i e within ∙ ap (λ (q : Equation). numbers (take i equations) ++ q.variable ∷ []) (sym here)))
-      (distinct_snoc (numbers (take i equations)) e.variable d (differ (take i equations) e.variable (third_fails (list_any (has_other_arity params variables) (parts (term e.body))) (of_variable variables (λ variable. is_input variable.role) e.variable)
-      (list_any (λ (q : Equation). q.variable == e.variable) (take i equations)) (list_any reduces_by_sub (parts (term e.body))) Arity InputEquation TwoEquations BadReduce kind)))
+      (distinct_snoc (numbers (take i equations)) e.variable d (differ (take i equations) e.variable (none_holds (equation_tests params variables (take i equations) e) kind).1.1.0))
 
   below : (es : List Equation) → AllByRecursion (λ (e : Equation). e.variable < length variables) es → (i q : ℕ) → list_any (◌==◌ q) (numbers (take i es)) ≡ true → q < length variables
   below [] h zero q e = cc

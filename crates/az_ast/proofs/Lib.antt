@@ -5,8 +5,10 @@ pub mod Laws
 pub mod MapLemmas
 pub mod Members
 pub mod PlainSteps
+pub mod ProgramLaws
 pub mod Ramp
 pub mod ReadLemmas
+pub mod ShapeParts
 pub mod TableLemmas
 pub mod Terms
 pub mod ValueLemmas

@@ -3,7 +3,7 @@
 -- The limits come first, in their order. Then the items are looked at: item 0 is the header, the
 -- declarations and then the equations follow. The first item with a fault is answered, with its first
 -- kind; an output or local without an equation is answered last, at its declaration.
-use Rattle.std.specs.Prelude.{ℕ, suc, ◌+◌, ◌-◌, ◌==◌, nat_lt, Bool, true, false, not, ◌&&◌, ◌||◌, if◌then◌else◌, List, [], ◌∷◌, ◌++◌, length, map, flat_map, slice_get, Option, Some, None, option_map}
+use Rattle.std.specs.Prelude.{◌≡◌, ℕ, suc, ◌+◌, ◌-◌, ◌==◌, nat_lt, Bool, true, false, not, ◌&&◌, ◌||◌, if◌then◌else◌, List, [], ◌∷◌, ◌++◌, length, map, flat_map, slice_get, Option, Some, None, option_map, All}
 use Rattle.std.specs.Option.{option_or, option_map_or}
 use Rattle.std.specs.List.{list_all, list_any}
 use Rattle.std.specs.Char.{is_ascii_digit}
@@ -21,6 +21,7 @@ use Rattle.az_ast.specs.declared.program.Role.{Role}
 use Rattle.az_ast.specs.declared.program.Role.TheVariants.{Input, Output, Local}
 use Rattle.az_ast.specs.declared.program.Variable.{Variable}
 use Rattle.az_ast.specs.Nodes.{nodes}
+use Rattle.az_ast.specs.Placed.{IsPlaced, IsConjunction}
 use Rattle.az_ast.specs.System.{System}
 use Rattle.az_ast.specs.Term.{Term, constant, index, access, negation, binary, cases, reduction, term}
 use Rattle.az_ast.specs.Walks.{parts, domains, extra_under}
@@ -163,3 +164,12 @@ shape_of p = option_or (first_kind 0 (item_kinds p)) (first_kind 1 (missing_kind
 -- the refusal, or none of a program
 abbrev pub refusal_of : System → Option ShapeFault
 refusal_of p = option_or (limit_of p) (shape_of p)
+
+-- a program: parts that are placed, and not refused
+pub record IsProgram (p : System) : Type 0 where
+  pub placed : IsPlaced p
+  pub accepted : refusal_of p ≡ None
+
+-- every domain in it has one disjunct
+abbrev pub IsPlain : System → Type 0
+IsPlain p = All IsConjunction (all_domains p)

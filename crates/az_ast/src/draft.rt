@@ -1,14 +1,15 @@
 //! The parts of a program that are put together, and why they are refused.
 
-ghost use Rattle.std.specs.Prelude.{◌≡◌, ◌+◌, ◌≤◌, [], length, Bool, Option};
+ghost use Rattle.std.specs.Prelude.{◌≡◌, ◌<◌, ◌≤◌, length, All};
 ghost use Rattle.std.specs.List.{list_any};
 ghost use Rattle.az_ast.specs.Placed.{IsPlaced};
-ghost use Rattle.az_ast.specs.Shapes.{all_domains, has_many_names, has_many_columns, has_many_nodes, has_many_disjuncts, limit_of, declaration_kind, equation_kind, kinds_after, missing_kinds, first_kind, shape_of, refusal_of, has_other_arity, reduces_by_sub, of_variable, is_input};
-ghost use Rattle.az_ast.specs.Term.{term};
-ghost use Rattle.az_ast.specs.Walks.{parts, is_outside};
+ghost use Rattle.az_ast.specs.Shapes.{all_domains, has_many_names, has_many_columns, has_many_nodes, limit_of, shape_of, refusal_of};
+ghost use Rattle.az_ast.specs.Walks.{is_outside};
 
+use crate::items::{declaration_fault, equation_fault, missing_fault};
 use crate::limits::{has_many_indices, has_many_nodes, some_outside, some_under_many};
 use crate::part_tests::OutsideBounds;
+use crate::shape::header_kind;
 use crate::{Equation, ShapeFault, Variable};
 use az_lin::{Domain, Limit, List, Name};
 use std::marker::Model;
@@ -85,5 +86,37 @@ impl Draft {
             return Some(ShapeFault::Limit(Limit::Disjuncts));
         }
         None
+    }
+
+    /// The first item at fault, with its first kind.
+    #[tactic(auto, using(crate::proofs::ShapeParts::shape_parts))]
+    fn shape(&self) -> Option<ShapeFault>
+        requires few { length self.now.variables ≤ 256 }
+        requires declared { All (λ equation. equation.variable < length self.now.variables) self.now.equations }
+        ensures { result ≡ shape_of self.now }
+    {
+        let variables = self.variables.as_slice();
+        let equations = self.equations.as_slice();
+        if let Some(kind) = header_kind(self.params.as_slice()) {
+            return Some(ShapeFault::Shape { kind, item: 0 });
+        }
+        if let Some(fault) = declaration_fault(variables) {
+            return Some(fault);
+        }
+        if let Some(fault) = equation_fault(self.params.len(), variables, equations) {
+            return Some(fault);
+        }
+        missing_fault(variables, equations)
+    }
+
+    /// Why the parts are no program.
+    pub fn refusal(&self) -> Option<ShapeFault>
+        requires { IsPlaced self.now }
+        ensures { result ≡ refusal_of self.now }
+    {
+        if let Some(fault) = self.limit() {
+            return Some(fault);
+        }
+        self.shape()
     }
 }

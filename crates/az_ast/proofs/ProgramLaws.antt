@@ -134,7 +134,7 @@ module _ (p : System) (program : IsProgram p) where
   declared_equation_is x h = by (slice_get p.variables x) refl
     where
       by : (o : Option Variable) → slice_get p.variables x ≡ o → is_none (equation_of p.equations x) ≡ of_variable p.variables (λ v. is_input v.role) x
-      by None e = absurd (elim (slice_get_cases p.variables x).1 [ | inl a ↦ let f = a.2 in cc | inr b ↦ let g = b.0 in omega (arith, g, h) ])
+      by None e = absurd (elim (slice_get_cases p.variables x).1 [ inl a ↦ let f = a.2 in cc | inr b ↦ let g = b.0 in omega (arith, g, h) ])
       by (Some v) e = equation_is x v e ∙ sym (ap (λ o. option_map_or (λ (w : Variable). is_input w.role) o false) e)
 
 -- a number of disjuncts from 1 to 1
@@ -154,8 +154,9 @@ each P Q f (x ∷ xs) h = (f x h.0, each P Q f xs h.1)
 
 pub plain_is : (p : System) → IsTrue (not (list_any (is_outside 1 1) (all_domains p))) ↔ IsPlain p
 plain_is p =
-    let ds = all_domains p in
-    (λ h. All-from_recursion IsConjunction ds
-    (each (λ d. is_outside 1 1 d ≡ false) IsConjunction (λ d e. one_disjunct (length d.disjuncts) e) ds (none_of (is_outside 1 1) ds (not-true (list_any (is_outside 1 1) ds) h))),
-    λ h. not_from_false (list_any (is_outside 1 1) ds)
-    (of_none (is_outside 1 1) ds (each IsConjunction (λ d. is_outside 1 1 d ≡ false) (λ d e. from_one (length d.disjuncts) e) ds (recursion_from_All IsConjunction ds h))))
+    let ds = all_domains p in (
+      λ h. All-from_recursion IsConjunction ds
+          (each (λ d. is_outside 1 1 d ≡ false) IsConjunction (λ d e. one_disjunct (length d.disjuncts) e) ds (none_of (is_outside 1 1) ds (not-true (list_any (is_outside 1 1) ds) h))),
+      λ h. not_from_false (list_any (is_outside 1 1) ds)
+          (of_none (is_outside 1 1) ds (each IsConjunction (λ d. is_outside 1 1 d ≡ false) (λ d e. from_one (length d.disjuncts) e) ds (recursion_from_All IsConjunction ds h))),
+    )

@@ -4,6 +4,7 @@
 #![tactic(auto)]
 
 mod checked;
+mod copy;
 mod draft;
 mod expr;
 mod fault;

@@ -16,11 +16,12 @@ pub(crate) fn copied<T: TryCopy>(alloc: Global, item: &T) -> Result<T, ShapeFaul
 {
     match item.copy(alloc) {
         Ok(copied) => Ok(copied),
-        Err(_) => Err(ShapeFault::Memory),
+        Err(LinFault::Memory) => Err(ShapeFault::Memory),
+        Err(_) => unreachable!(),
     }
 }
 
-fn copy_of(alloc: Global, e: &Expr) -> Result<Expr, LinFault>
+pub(crate) fn copy_of(alloc: Global, e: &Expr) -> Result<Expr, LinFault>
     ensures ok { IfOk result (λ copied. copied ≡ e.now) }
     ensures cause { IfErr result (λ fault. fault ≡ lin.Memory) }
 {
@@ -57,5 +58,15 @@ fn copy_of(alloc: Global, e: &Expr) -> Result<Expr, LinFault>
 impl TryCopy for Expr {
     fn copy(&self, alloc: Global) -> Result<Self, LinFault> {
         copy_of(alloc, self)
+    }
+}
+
+impl Expr {
+    /// An equal expression in memory of its own.
+    pub fn copy(&self, alloc: Global) -> Result<Expr, ShapeFault>
+        ensures ok { IfOk result (λ copied. copied ≡ self.now) }
+        ensures cause { IfErr result (λ fault. fault ≡ Memory) }
+    {
+        copied(alloc, self)
     }
 }

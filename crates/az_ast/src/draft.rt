@@ -11,7 +11,8 @@ use crate::limits::{has_many_indices, has_many_nodes, some_outside, some_under_m
 use crate::part_tests::OutsideBounds;
 use crate::shape::header_kind;
 use crate::{Equation, ShapeFault, Variable};
-use az_lin::{Domain, Limit, List, Name};
+use az_lin::{Domain, Limit, LinFault, List, Name, TryCopy};
+use std::alloc::Global;
 use std::marker::Model;
 
 #[derive(Debug, Drop)]
@@ -33,6 +34,23 @@ impl Model for Draft {
     ghost coded = { Prim.hlevel (codes, e.the_row.coded) };
 
     ghost view = { λ p. record { name = p.name; params = p.params; pdom = p.pdom; variables = p.variables; equations = p.equations } };
+}
+
+impl TryCopy for Draft {
+    fn copy(&self, alloc: Global) -> Result<Self, LinFault> {
+        let name = self.name.copy(alloc)?;
+        let params = self.params.copy(alloc)?;
+        let pdom = self.pdom.copy(alloc)?;
+        let variables = self.variables.copy(alloc)?;
+        let equations = self.equations.copy(alloc)?;
+        Ok(Draft {
+            name,
+            params,
+            pdom,
+            variables,
+            equations,
+        })
+    }
 }
 
 /// The number of disjuncts that a domain may have.

@@ -3,14 +3,17 @@
 
 ghost use Rattle.std.specs.Prelude.{◌≡◌, ◌<◌, ◌↔◌, IsTrue, IfOk, IfErr, Some, None, is_none, length};
 ghost use Rattle.std.specs.Option.{option_copied};
+ghost use Rattle.az_ast.specs.declared.fault.ShapeFault.TheVariants.{Memory};
 ghost use Rattle.az_ast.specs.Meaning.{equation_of};
 ghost use Rattle.az_ast.specs.Placed.{IsPlaced};
 ghost use Rattle.az_ast.specs.Shapes.{refusal_of, IsProgram, IsPlain, of_variable, is_input};
 
+use crate::copy::{copied, copy_of};
 use crate::draft::Draft;
 use crate::part_tests::OutsideBounds;
 use crate::{Expr, ShapeFault};
-use az_lin::{Domain, List, Name};
+use az_lin::{Domain, LinFault, List, Name, TryCopy};
+use std::alloc::Global;
 use std::marker::Model;
 
 #[derive(Debug, Clone, Copy, PartialEq, Eq)]
@@ -34,6 +37,28 @@ pub struct Variable {
 pub struct Equation {
     pub variable: u32,
     pub body: Expr,
+}
+
+impl TryCopy for Variable {
+    fn copy(&self, alloc: Global) -> Result<Self, LinFault> {
+        let name = self.name.copy(alloc)?;
+        let domain = self.domain.copy(alloc)?;
+        Ok(Variable {
+            name,
+            role: self.role,
+            domain,
+        })
+    }
+}
+
+impl TryCopy for Equation {
+    fn copy(&self, alloc: Global) -> Result<Self, LinFault> {
+        let body = copy_of(alloc, &self.body)?;
+        Ok(Equation {
+            variable: self.variable,
+            body,
+        })
+    }
 }
 
 /// Parts that are placed and keep the limits and the rules on shapes.
@@ -88,6 +113,15 @@ impl Program {
             Some(fault) => Err(fault),
             None => Ok(Program { draft }),
         }
+    }
+
+    /// An equal program in memory of its own.
+    pub fn copy(&self, alloc: Global) -> Result<Program, ShapeFault>
+        ensures ok { IfOk result (λ copied. copied ≡ self.now) }
+        ensures cause { IfErr result (λ fault. fault ≡ Memory) }
+    {
+        let draft = copied(alloc, &self.draft)?;
+        Ok(Program { draft })
     }
 
     pub fn name(&self) -> &Name

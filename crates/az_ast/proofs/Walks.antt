@@ -4,13 +4,13 @@ use Rattle.std.specs.Prelude.{map, slice_index_or, flat_map}
 use Rattle.std.specs.List.{list_any}
 use Rattle.std.proofs.Math.Nat.{le-max_left}
 use Rattle.std.proofs.lemmas.List.Folds.{list_any-append}
-use Rattle.az_lin.specs.Affine.{Union}
+use Rattle.az_lin.specs.Affine.{AffineMap, Union}
 use Rattle.az_ast.specs.declared.expr.Branch.{Branch}
 use Rattle.az_ast.specs.declared.expr.Expr.{Expr}
 use Rattle.az_ast.specs.declared.expr.Expr.TheVariants.{Cases}
 use Rattle.az_ast.specs.Nodes.{nodes, nodes_below}
 use Rattle.az_ast.specs.Term.{Term, Choices, choices, term}
-use Rattle.az_ast.specs.Walks.{parts, parts_below, branch_domains, extra_under, extra_below}
+use Rattle.az_ast.specs.Walks.{parts, parts_below, own_accesses, branch_domains, extra_under, extra_below}
 use Rattle.az_ast.proofs.Terms.{term-Cases}
 
 -- a test of what the items give
@@ -44,3 +44,7 @@ module _ (branches : List Branch) (k : ℕ) (b : Branch) (within : k < length br
 
   pub nodes-next : nodes (term b.body) ≤ nodes_below (below (drop k branches))
   nodes-next = subst (λ rest. nodes (term b.body) ≤ nodes_below (below rest)) (sym opened) (omega arith)
+
+-- the accesses of the branches
+abbrev pub accesses_below : List Branch → List (ℕ × AffineMap)
+accesses_below branches = flat_map own_accesses (parts_below (below branches))

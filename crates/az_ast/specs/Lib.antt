@@ -1,3 +1,4 @@
+pub mod Accesses
 pub mod Certified
 pub mod Chosen
 pub mod FirstForm

@@ -34,4 +34,4 @@ pub use plain::{Found, value_to};
 pub use program::{Equation, Program, Role, Variable};
 pub use reason::Reason;
 pub use table::Table;
-pub use walk::{PartTest, is_under, nodes_left, some_part};
+pub use walk::{Access, PartTest, accesses, is_under, nodes_left, some_part};

@@ -1,12 +1,16 @@
 //! Walks over an expression, itself first and then its parts in order of evaluation.
 
-ghost use Rattle.std.specs.Prelude.{◌≡◌, ℕ, ◌-◌, ◌≤◌, Bool, IsTrue, ◌↔◌, SomeIff};
+ghost use Rattle.std.specs.Prelude.{◌≡◌, ℕ, ◌-◌, ◌≤◌, Bool, IsTrue, ◌↔◌, SomeIff, map, ◌++◌, IfOk, IfErr, OnOk};
 ghost use Rattle.std.specs.List.{list_any};
 ghost use Rattle.az_ast.specs.Nodes.{nodes};
 ghost use Rattle.az_ast.specs.Term.{Term, term};
-ghost use Rattle.az_ast.specs.Walks.{parts, extra_under};
+ghost use Rattle.az_ast.specs.Walks.{parts, accesses, extra_under};
+ghost use Rattle.az_ast.specs.Accesses.{access_of};
+ghost use Rattle.az_ast.specs.declared.fault.ShapeFault.TheVariants.{Memory};
 
-use crate::Expr;
+use crate::{Expr, ShapeFault};
+use az_lin::Map;
+use std::alloc::Global;
 
 /// A test of one part of an expression.
 pub trait PartTest {
@@ -80,5 +84,50 @@ pub fn is_under(e: &Expr, most: u32) -> bool
             Some(most) => is_under(e.get(), most),
             None => false,
         },
+    }
+}
+
+/// An access: the number of the variable, and the map to the point that is read.
+#[derive(Debug, Clone, Copy)]
+pub struct Access<'a> {
+    pub variable: u32,
+    pub map: &'a Map,
+}
+
+/// The accesses in the expression, in order of evaluation.
+pub fn accesses<'a>(alloc: Global, e: &'a Expr) -> Result<Vec<Access<'a>>, ShapeFault>
+    ensures ok { IfOk result (λ found. map access_of found.items ≡ accesses (term e.now)) }
+    ensures cause { IfErr result (λ fault. fault ≡ Memory) }
+{
+    let mut found = Vec::new(alloc);
+    push_accesses(&mut found, e)?;
+    Ok(found)
+}
+
+fn push_accesses<'a>(found: &mut Vec<Access<'a>>, e: &'a Expr) -> Result<(), ShapeFault>
+    ensures ok { OnOk result (map access_of found.new.items ≡ map access_of found.old.items ++ accesses (term e.now)) }
+    ensures cause { IfErr result (λ fault. fault ≡ Memory) }
+{
+    match e {
+        Expr::Const(_) | Expr::Index(_) => Ok(()),
+        Expr::Access(variable, map) => {
+            found.push(Access {
+                variable: *variable,
+                map,
+            })?;
+            Ok(())
+        }
+        Expr::Neg(e) => push_accesses(found, e.get()),
+        Expr::Bin(_, a, b) => {
+            push_accesses(found, a.get())?;
+            push_accesses(found, b.get())
+        }
+        Expr::Cases(branches) => {
+            for branch in branches.as_slice() {
+                push_accesses(found, &branch.body)?;
+            }
+            Ok(())
+        }
+        Expr::Reduce(_, _, _, e) => push_accesses(found, e.get()),
     }
 }

@@ -137,6 +137,57 @@ module _ (p : System) (program : IsProgram p) where
       by None e = absurd (elim (slice_get_cases p.variables x).1 [ inl a ↦ let f = a.2 in cc | inr b ↦ let g = b.0 in omega (arith, g, h) ])
       by (Some v) e = equation_is x v e ∙ sym (ap (λ o. option_map_or (λ (w : Variable). is_input w.role) o false) e)
 
+-- a fact on each element, weakened
+each : {A : Type 0} (P Q : A → Type 0) → ((x : A) → P x → Q x) → (xs : List A) → AllByRecursion P xs → AllByRecursion Q xs
+each P Q f [] h = tt
+each P Q f (x ∷ xs) h = (f x h.0, each P Q f xs h.1)
+
+-- no element has more than so many
+no_more : {A : Type 0} (most : ℕ) (size : A → ℕ) (xs : List A) → list_any (λ x. nat_lt most (size x)) xs ≡ false → All (λ x. size x ≤ most) xs
+no_more most size xs e =
+    All-from_recursion (λ x. size x ≤ most) xs
+    (each (λ x. nat_lt most (size x) ≡ false) (λ x. size x ≤ most) (λ x h. ltb-false most (size x) h) xs (none_of (λ x. nat_lt most (size x)) xs e))
+
+-- the limits
+module _ (p : System) (program : IsProgram p) where
+  within_limits : AllByRecursion (λ row. row.0 ≡ false) (limits p)
+  within_limits = none_holds (limits p) (none p program).0
+
+  pub few_parts : (length p.variables ≤ 256) × (length p.params ≤ 8)
+  few_parts =
+      let n = neither (nat_lt 256 (length p.variables)) (nat_lt 8 (length p.params)) within_limits.0 in
+      (ltb-false 256 (length p.variables) n.0, ltb-false 8 (length p.params) n.1)
+
+  few_columns : (list_any (λ (v : Variable). nat_lt 8 (indices (length p.params) v)) p.variables ≡ false) × (list_any (stands_under_many (length p.params) p.variables) p.equations ≡ false)
+  few_columns = neither (list_any (λ (v : Variable). nat_lt 8 (indices (length p.params) v)) p.variables) (list_any (stands_under_many (length p.params) p.variables) p.equations) within_limits.1.0
+
+  pub few_indices : All (λ (v : Variable). indices (length p.params) v ≤ 8) p.variables
+  few_indices = no_more 8 (indices (length p.params)) p.variables few_columns.0
+
+  pub under_few : All (λ (e : Equation). stands_under_many (length p.params) p.variables e ≡ false) p.equations
+  under_few =
+      All-from_recursion (λ (e : Equation). stands_under_many (length p.params) p.variables e ≡ false) p.equations
+      (none_of (stands_under_many (length p.params) p.variables) p.equations few_columns.1)
+
+  pub few_nodes : All (λ (e : Equation). nodes (term e.body) ≤ 512) p.equations
+  few_nodes = no_more 512 (λ (e : Equation). nodes (term e.body)) p.equations within_limits.1.1.0
+
+  pub few_disjuncts : All (λ (d : Union). length d.disjuncts ≤ 8) (all_domains p)
+  few_disjuncts = no_more 8 (λ (d : Union). length d.disjuncts) (all_domains p) within_limits.1.1.1.0
+
+  -- each access has as many indices as its variable, and no reduction is by difference
+  pub has_arities : All (λ (e : Equation). AllByRecursion (λ part. has_other_arity (length p.params) p.variables part ≡ false) (parts (term e.body))) p.equations
+  has_arities =
+      All-from_recursion (λ (e : Equation). AllByRecursion (λ part. has_other_arity (length p.params) p.variables part ≡ false) (parts (term e.body))) p.equations
+      (each_equation p program (λ (e : Equation). AllByRecursion (λ part. has_other_arity (length p.params) p.variables part ≡ false) (parts (term e.body)))
+      (λ earlier e h. none_of (has_other_arity (length p.params) p.variables) (parts (term e.body)) (none_holds (equation_tests (length p.params) p.variables earlier e) h).0))
+
+  pub folds : All (λ (e : Equation). AllByRecursion (λ part. reduces_by_sub part ≡ false) (parts (term e.body))) p.equations
+  folds =
+      All-from_recursion (λ (e : Equation). AllByRecursion (λ part. reduces_by_sub part ≡ false) (parts (term e.body))) p.equations
+      (each_equation p program (λ (e : Equation). AllByRecursion (λ part. reduces_by_sub part ≡ false) (parts (term e.body)))
+      (λ earlier e h. none_of reduces_by_sub (parts (term e.body)) (none_holds (equation_tests (length p.params) p.variables earlier e) h).1.1.1.0))
+
 -- a number of disjuncts from 1 to 1
 one_disjunct : (n : ℕ) → (nat_lt n 1 || nat_lt 1 n) ≡ false → n ≡ 1
 one_disjunct n e =
@@ -147,10 +198,6 @@ one_disjunct n e =
 
 from_one : (n : ℕ) → n ≡ 1 → (nat_lt n 1 || nat_lt 1 n) ≡ false
 from_one n e = subst (λ m. (nat_lt m 1 || nat_lt 1 m) ≡ false) (sym e) refl
-
-each : {A : Type 0} (P Q : A → Type 0) → ((x : A) → P x → Q x) → (xs : List A) → AllByRecursion P xs → AllByRecursion Q xs
-each P Q f [] h = tt
-each P Q f (x ∷ xs) h = (f x h.0, each P Q f xs h.1)
 
 pub plain_is : (p : System) → IsTrue (not (list_any (is_outside 1 1) (all_domains p))) ↔ IsPlain p
 plain_is p =

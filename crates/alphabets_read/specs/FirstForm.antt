@@ -10,6 +10,7 @@ use Rattle.az_text.specs.declared.token.TokenKind.TheVariants.{Word, Number, Quo
 use Rattle.az_text.specs.Fronts.{lexed}
 use Rattle.az_ast.specs.System.{System}
 use Rattle.az_ast.specs.FirstForm.{ramp}
+use Rattle.az_ast.specs.Shapes.{is_index_name}
 
 -- what such a text says: the program's name, the output with its index and the ends of its interval,
 -- and the equation's index with the factor and the offset of its value
@@ -44,12 +45,6 @@ is_reserved word = list_any (λ reserved. bytes_eq reserved word) reserved_words
 
 abbrev pub IsName : List ℕ → Type 0
 IsName word = is_reserved word ≡ false
-
--- `i` followed by digits alone, of which there is at least one
-abbrev pub is_index_name : List ℕ → Bool
-is_index_name [] = false
-is_index_name (i ∷ []) = false
-is_index_name (i ∷ digit ∷ digits) = i == 105 && list_all is_ascii_digit (digit ∷ digits)
 
 -- a number has at most six digits, and so is below a million
 abbrev pub IsShortNumber : TokenKind → ℕ → Type 0

@@ -3,13 +3,13 @@
 ghost use Rattle.std.specs.Prelude.{◌≡◌, ◌<◌, ◌≤◌, ◌↔◌, List, ℕ, map, length, IsTrue, All, Contains, IfOk, IfErr, IfSome, IfNone, slice_get};
 ghost use Rattle.az_text.specs.declared.token.Token.{Token};
 ghost use Rattle.az_text.specs.declared.token.TokenKind.TheVariants.{Word, Number, Mark};
-ghost use Rattle.alphabets_read.specs.FirstForm.{Form as Said, kinds, IsForm, HasNames, IsShort, is_index_name, is_reserved};
+ghost use Rattle.alphabets_read.specs.FirstForm.{Form as Said, kinds, IsForm, HasNames, IsShort, is_reserved};
 ghost use Rattle.alphabets_read.specs.Expected.{kind_of, kinds_of, said, word_of, number_of, Picks};
 ghost use Rattle.std.specs.Option.{option_copied};
-ghost use Rattle.std.specs.List.{list_any, list_all};
+ghost use Rattle.std.specs.List.{list_any};
 ghost use Rattle.std.specs.Str.{bytes_eq};
-ghost use Rattle.std.specs.Char.{is_ascii_digit};
 
+use az_ast::is_index_name;
 use az_text::{MarkKind, Token, TokenKind};
 
 /// What a text of the form says.
@@ -44,25 +44,6 @@ fn is_reserved(word: &str) -> bool
     ensures { result ≡ is_reserved word.now }
 {
     is_among(&RESERVED, word)
-}
-
-fn are_digits(bytes: &[u8]) -> bool
-    ensures { result ≡ list_all is_ascii_digit bytes.now }
-{
-    match bytes {
-        [] => true,
-        [first, rest @ ..] => first.is_ascii_digit() && are_digits(rest),
-    }
-}
-
-/// `i` and digits: the names that indices are given where a program is shown.
-fn is_index_name(word: &str) -> bool
-    ensures { result ≡ is_index_name word.now }
-{
-    match word.as_bytes() {
-        [b'i', digit, digits @ ..] => digit.is_ascii_digit() && are_digits(digits),
-        _ => false,
-    }
 }
 
 /// A token that the form asks for at a place.

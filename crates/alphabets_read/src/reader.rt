@@ -1,9 +1,10 @@
 //! From the text to the program.
 
-ghost use Rattle.std.specs.Prelude.{◌≡◌, ℕ, ◌<◌, ◌≤◌, ◌∷◌, [], pos, length, All, IfOk, IfErr, Err};
+ghost use Rattle.std.specs.Prelude.{◌≡◌, false, ℕ, ◌<◌, ◌≤◌, ◌∷◌, [], pos, length, All, IfOk, IfErr, Err};
 ghost use Rattle.az_lin.specs.Affine.{IsEntry};
 ghost use Rattle.az_ast.specs.System.{System};
 ghost use Rattle.az_ast.specs.FirstForm.{interval, no_parameters};
+ghost use Rattle.az_ast.specs.Shapes.{is_index_name};
 ghost use Rattle.alphabets_read.specs.FirstForm.{IsTextOf, IsOfForm, HasSmallNumbers, program_of};
 ghost use Rattle.alphabets_read.specs.Expected.{said};
 ghost use Rattle.alphabets_read.specs.Refusal.{RefusesText};
@@ -71,7 +72,8 @@ fn interval(alloc: Global, low: i128, high: i128) -> Result<Domain, ReadFault>
 impl Form<'_> {
     /// The program that a text of the form says.
     fn program(&self, alloc: Global) -> Result<Program, ReadFault>
-        requires { HasSmallNumbers (said self.now) }
+        requires small { HasSmallNumbers (said self.now) }
+        requires output { is_index_name self.now.output.now ≡ false }
         ensures ok { IfOk result (λ p. p ≡ program_of (said self.now)) }
         ensures cause { IfErr result (λ fault. fault ≡ Memory) }
     {
@@ -88,9 +90,10 @@ impl Form<'_> {
         let variables = one(alloc, output)?;
         let equations = one(alloc, equation)?;
         let program = name(alloc, self.program)?;
-        Program::new(program, List::new(alloc), pdom, variables, equations).map_err(
-            |_| ReadFault::Memory,
-        )
+        match Program::new(program, List::new(alloc), pdom, variables, equations) {
+            Ok(program) => Ok(program),
+            Err(_) => unreachable!(),
+        }
     }
 }
 

@@ -1,9 +1,15 @@
+pub mod DistinctNumbers
+pub mod DomainLists
+pub mod ItemSteps
 pub mod Laws
 pub mod MapLemmas
 pub mod Members
 pub mod PlainSteps
+pub mod ProgramLaws
 pub mod Ramp
 pub mod ReadLemmas
+pub mod ShapeParts
 pub mod TableLemmas
 pub mod Terms
 pub mod ValueLemmas
+pub mod Walks

@@ -1,3 +1,4 @@
+pub mod Accesses
 pub mod Certified
 pub mod Chosen
 pub mod FirstForm
@@ -5,8 +6,12 @@ pub mod Meaning
 pub mod Nodes
 pub mod Operators
 pub mod OutputRows
+pub mod Placed
 pub mod Plain
 pub mod Points
+pub mod Shapes
 pub mod System
 pub mod Tables
 pub mod Term
+pub mod Walks
+pub mod Writable

@@ -1,9 +1,11 @@
 //! A program that was found to be certified.
 
-ghost use Rattle.std.specs.Prelude.{◌≡◌};
+ghost use Rattle.std.specs.Prelude.{◌≡◌, IfOk, IfErr};
+ghost use Rattle.az_ast.specs.declared.fault.ShapeFault.TheVariants.{Memory};
 ghost use Rattle.az_ast.specs.Certified.{IsCertified};
 
-use crate::Program;
+use crate::{Program, ShapeFault};
+use std::alloc::Global;
 use std::marker::Model;
 
 /// Its domains are finite, its branches cover and don't overlap, and its reads stay within.
@@ -33,6 +35,15 @@ impl Checked {
         ensures { result ≡ program }
     {
         Checked { program }
+    }
+
+    /// An equal program, which is certified too.
+    pub fn copy(&self, alloc: Global) -> Result<Checked, ShapeFault>
+        ensures ok { IfOk result (λ copied. copied ≡ self.now) }
+        ensures cause { IfErr result (λ fault. fault ≡ Memory) }
+    {
+        let program = self.program.copy(alloc)?;
+        Ok(Checked { program })
     }
 
     pub fn program(&self) -> &Program

@@ -1,6 +1,6 @@
 //! Tables by the numbers of the variables: those of the inputs, and those that a run fills.
 
-ghost use Rattle.std.specs.Prelude.{◌≡◌, OnOk, OnErr, IfErr};
+ghost use Rattle.std.specs.Prelude.{◌≡◌, OnOk, OnErr, IfOk, IfErr};
 ghost use Rattle.std.specs.Option.{option_copied};
 ghost use Rattle.std.specs.FinMap as map;
 ghost use Rattle.az_ast.specs.declared.fault.ShapeFault.TheVariants.{Memory};
@@ -50,6 +50,18 @@ impl TableMap {
     {
         self.tables.get(&variable)
     }
+
+    fn copy(&self, alloc: Global) -> Result<TableMap, ShapeFault>
+        ensures ok { IfOk result (λ copied. copied ≡ self.now) }
+        ensures cause { IfErr result (λ fault. fault ≡ Memory) }
+    {
+        let mut copies = BTreeMap::new(alloc);
+        'tables: for (variable, table) in self.tables.iter().rev() {
+            let copied = table.copy(alloc)?;
+            copies.insert(*variable, copied)?;
+        }
+        Ok(TableMap { tables: copies })
+    }
 }
 
 /// The tables of a program's inputs.
@@ -92,6 +104,15 @@ impl Inputs {
         ensures { option_copied result ≡ map.get self.now variable }
     {
         self.tables.table(variable)
+    }
+
+    /// Equal tables in memory of their own.
+    pub fn copy(&self, alloc: Global) -> Result<Inputs, ShapeFault>
+        ensures ok { IfOk result (λ copied. copied ≡ self.now) }
+        ensures cause { IfErr result (λ fault. fault ≡ Memory) }
+    {
+        let tables = self.tables.copy(alloc)?;
+        Ok(Inputs { tables })
     }
 }
 

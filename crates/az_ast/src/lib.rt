@@ -4,24 +4,34 @@
 #![tactic(auto)]
 
 mod checked;
+mod copy;
+mod draft;
 mod expr;
 mod fault;
+mod index_name;
 mod inputs;
+mod items;
+mod limits;
 mod op;
+mod part_tests;
 mod plain;
 mod point;
 mod program;
 mod reason;
+mod shape;
 mod table;
 #[cfg(test)]
 mod tests;
+mod walk;
 
 pub use checked::Checked;
 pub use expr::{Branch, Expr};
 pub use fault::{ShapeFault, ShapeKind};
+pub use index_name::is_index_name;
 pub use inputs::{Inputs, Values};
 pub use op::{Op, apply_op, identity_of, wrap};
 pub use plain::{Found, value_to};
 pub use program::{Equation, Program, Role, Variable};
 pub use reason::Reason;
 pub use table::Table;
+pub use walk::{Access, PartTest, accesses, is_under, nodes_left, some_part};

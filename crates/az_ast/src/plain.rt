@@ -6,13 +6,14 @@ ghost use Rattle.std.specs.Option.{option_copied};
 ghost use Rattle.az_ast.specs.Chosen.{ChosenIs, FoundIs, ReadIs, found_map};
 ghost use Rattle.az_ast.specs.Operators.{wrapped, applied};
 ghost use Rattle.az_lin.specs.Affine.{value_at};
-ghost use Rattle.az_ast.specs.Meaning.{equation_of, ValueTo};
+ghost use Rattle.az_ast.specs.Meaning.{ValueTo};
 ghost use Rattle.az_ast.specs.Plain.{IsReadable, IsUnreadable, StopsTo};
 ghost use Rattle.az_ast.specs.Tables.{InputGives};
 ghost use Rattle.az_ast.specs.Term.{term};
 ghost use Rattle.az_ast.specs.declared.fault.ShapeFault.TheVariants.{Memory};
 
 use crate::point::{holds, is_readable, point_read};
+use crate::program::equation_of;
 use crate::{
     Branch, Equation, Expr, Inputs, Op, Program, Role, ShapeFault, Variable, apply_op, wrap,
 };
@@ -71,12 +72,6 @@ fn variable_of(variables: &[Variable], x: u32) -> Option<&Variable>
     ensures { option_copied result ≡ slice_get variables.now x }
 {
     variables.get(x as usize)
-}
-
-fn equation_of(equations: &[Equation], x: u32) -> Option<&Equation>
-    ensures { option_copied result ≡ equation_of equations.now x }
-{
-    equations.iter().find(|equation| equation.variable == x)
 }
 
 fn input_value(inputs: &Inputs, x: u32, k: &[i128]) -> Found

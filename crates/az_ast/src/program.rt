@@ -1,12 +1,19 @@
 //! A program: its parameters and their domain, its variables, and an equation for each output
 //! and local.
 
-ghost use Rattle.std.specs.Prelude.{◌≡◌, IfOk, IfErr};
-ghost use Rattle.az_ast.specs.FirstForm.{IsRamp};
+ghost use Rattle.std.specs.Prelude.{◌≡◌, ◌<◌, ◌↔◌, IsTrue, IfOk, IfErr, Some, None, is_none, length};
+ghost use Rattle.std.specs.Option.{option_copied};
 ghost use Rattle.az_ast.specs.declared.fault.ShapeFault.TheVariants.{Memory};
+ghost use Rattle.az_ast.specs.Meaning.{equation_of};
+ghost use Rattle.az_ast.specs.Placed.{IsPlaced};
+ghost use Rattle.az_ast.specs.Shapes.{refusal_of, IsProgram, IsPlain, of_variable, is_input};
 
+use crate::copy::{copied, copy_of};
+use crate::draft::Draft;
+use crate::part_tests::OutsideBounds;
 use crate::{Expr, ShapeFault};
-use az_lin::{Domain, List, Name};
+use az_lin::{Domain, LinFault, List, Name, TryCopy};
+use std::alloc::Global;
 use std::marker::Model;
 
 #[derive(Debug, Clone, Copy, PartialEq, Eq)]
@@ -32,28 +39,58 @@ pub struct Equation {
     pub body: Expr,
 }
 
+impl TryCopy for Variable {
+    fn copy(&self, alloc: Global) -> Result<Self, LinFault> {
+        let name = self.name.copy(alloc)?;
+        let domain = self.domain.copy(alloc)?;
+        Ok(Variable {
+            name,
+            role: self.role,
+            domain,
+        })
+    }
+}
+
+impl TryCopy for Equation {
+    fn copy(&self, alloc: Global) -> Result<Self, LinFault> {
+        let body = copy_of(alloc, &self.body)?;
+        Ok(Equation {
+            variable: self.variable,
+            body,
+        })
+    }
+}
+
+/// Parts that are placed and keep the limits and the rules on shapes.
 #[derive(Debug, Drop)]
 pub struct Program {
-    name: Name,
-    params: List<Name>,
-    pdom: Domain,
-    variables: List<Variable>,
-    equations: List<Equation>,
+    draft: Draft,
 }
 
 impl Model for Program {
     ghost use Rattle.std.specs.Coded.{codes};
     ghost use Rattle.az_ast.specs.contracts.expr.Expr as e;
     ghost use Rattle.az_ast.specs.System.{System};
+    ghost use Rattle.az_ast.specs.Shapes.{IsProgram};
 
     ghost Value = { System };
 
     ghost coded = { Prim.hlevel (codes, e.the_row.coded) };
 
-    ghost view = { λ p. record { name = p.name; params = p.params; pdom = p.pdom; variables = p.variables; equations = p.equations } };
+    ghost view = { λ p. p.draft };
+
+    ghost invariant = { λ p. IsProgram p.draft };
+}
+
+/// The first equation of the variable with this number.
+pub(crate) fn equation_of(equations: &[Equation], x: u32) -> Option<&Equation>
+    ensures { option_copied result ≡ equation_of equations.now x }
+{
+    equations.iter().find(|equation| equation.variable == x)
 }
 
 impl Program {
+    /// A limit that is exceeded is answered before the first item that is at fault.
     pub fn new(
         name: Name,
         params: List<Name>,
@@ -61,46 +98,79 @@ impl Program {
         variables: List<Variable>,
         equations: List<Equation>,
     ) -> Result<Program, ShapeFault>
-        requires { IsRamp (record { name = name; params = params; pdom = pdom; variables = variables; equations = equations }) }
-        ensures ok { IfOk result (λ p. p ≡ record { name = name; params = params; pdom = pdom; variables = variables; equations = equations }) }
-        ensures cause { IfErr result (λ fault. fault ≡ Memory) }
+        requires { IsPlaced (record { name = name; params = params; pdom = pdom; variables = variables; equations = equations }) }
+        ensures ok { IfOk result (λ p. (p ≡ record { name = name; params = params; pdom = pdom; variables = variables; equations = equations }) × (refusal_of p ≡ None)) }
+        ensures cause { IfErr result (λ fault. refusal_of (record { name = name; params = params; pdom = pdom; variables = variables; equations = equations }) ≡ Some fault) }
     {
-        Ok(Program {
+        let draft = Draft {
             name,
             params,
             pdom,
             variables,
             equations,
-        })
+        };
+        match draft.refusal() {
+            Some(fault) => Err(fault),
+            None => Ok(Program { draft }),
+        }
+    }
+
+    /// An equal program in memory of its own.
+    pub fn copy(&self, alloc: Global) -> Result<Program, ShapeFault>
+        ensures ok { IfOk result (λ copied. copied ≡ self.now) }
+        ensures cause { IfErr result (λ fault. fault ≡ Memory) }
+    {
+        let draft = copied(alloc, &self.draft)?;
+        Ok(Program { draft })
     }
 
     pub fn name(&self) -> &Name
         ensures { result.now ≡ self.now.name }
     {
-        &self.name
+        &self.draft.name
     }
 
     pub fn params(&self) -> &[Name]
         ensures { result.now ≡ self.now.params }
     {
-        self.params.as_slice()
+        self.draft.params.as_slice()
     }
 
     pub fn pdom(&self) -> &Domain
         ensures { result.now ≡ self.now.pdom }
     {
-        &self.pdom
+        &self.draft.pdom
     }
 
     pub fn variables(&self) -> &[Variable]
-        ensures { result.now ≡ self.now.variables }
+        ensures value { result.now ≡ self.now.variables }
+        ensures rules { IsProgram self.now }
     {
-        self.variables.as_slice()
+        self.draft.variables.as_slice()
     }
 
     pub fn equations(&self) -> &[Equation]
-        ensures { result.now ≡ self.now.equations }
+        ensures value { result.now ≡ self.now.equations }
+        ensures rules { IsProgram self.now }
     {
-        self.equations.as_slice()
+        self.draft.equations.as_slice()
+    }
+
+    /// The equation of the variable with this number; an input has none.
+    pub fn equation(&self, variable: u32) -> Option<&Equation>
+        requires { variable < length self.now.variables }
+        ensures value { option_copied result ≡ equation_of self.now.equations variable }
+        ensures none { is_none result ≡ of_variable self.now.variables (λ v. is_input v.role) variable }
+    {
+        equation_of(self.draft.equations.as_slice(), variable)
+    }
+
+    /// Whether every domain in the program has one disjunct.
+    pub fn plain(&self) -> bool
+        ensures { IsTrue result ↔ IsPlain self.now }
+    {
+        !self
+            .draft
+            .some_domain_outside(&OutsideBounds { least: 1, most: 1 })
     }
 }

@@ -1,6 +1,6 @@
 //! Why a command that is well written is refused.
 
-use az_lin::{Name, NoInverse};
+use az_lin::{Name, NoInverse, RatPoint};
 
 /// A name, where a reason has one, is that of the variable, parameter or index it speaks of.
 #[derive(Debug, Drop)]
@@ -33,8 +33,8 @@ pub enum Reason {
     ZeroShift,
     /// The first access or index expression of the body that changes along the vector.
     NoReuse(u32),
-    /// The operator has no inverse, and this piece of the removed points may have a point.
-    NoSubtract { piece: u32 },
+    /// The operator has no inverse, and this piece of the removed points may have this point.
+    NoSubtract { piece: u32, point: RatPoint },
     NoFactor,
     Split,
     NoSpread,

@@ -1,12 +1,16 @@
 //! A table: the value of a variable at each of some points.
 
-ghost use Rattle.std.specs.Prelude.{◌≡◌, ℤ, MatchOption, length};
+ghost use Rattle.std.specs.Prelude.{◌≡◌, ℤ, MatchOption, length, IfOk, IfErr};
 ghost use Rattle.std.specs.List.Sorted.{IsBinarySearchResult, IsSearchInRange};
 ghost use Rattle.std.specs.Ordering.{int_cmp};
 ghost use Rattle.std.specs.Cmp.Lexicographic.{slice_cmp};
+ghost use Rattle.az_ast.specs.declared.fault.ShapeFault.TheVariants.{Memory};
 ghost use Rattle.az_ast.specs.Tables.{IsTable, TableGives};
 
+use crate::ShapeFault;
+use crate::copy::copied;
 use az_lin::List;
+use std::alloc::Global;
 use std::cmp::Ordering;
 use std::marker::Model;
 
@@ -43,6 +47,21 @@ fn compare(row: &(List<i128>, i64), point: &[i128]) -> Ordering
     row.0.as_slice().cmp(point)
 }
 
+fn copied_rows(
+    alloc: Global,
+    rows: &[(List<i128>, i64)],
+) -> Result<Vec<(List<i128>, i64)>, ShapeFault>
+    ensures ok { IfOk result (λ copies. copies.items ≡ rows.now) }
+    ensures cause { IfErr result (λ fault. fault ≡ Memory) }
+{
+    let mut copies = Vec::with_capacity(alloc, rows.len())?;
+    'rows: for row in rows {
+        let point = copied(alloc, &row.0)?;
+        copies.push((point, row.1))?;
+    }
+    Ok(copies)
+}
+
 impl Table {
     pub fn new(rows: List<(List<i128>, i64)>) -> Table
         requires { IsTable rows }
@@ -56,6 +75,17 @@ impl Table {
         ensures increasing { IsTable result.now }
     {
         self.rows.as_slice()
+    }
+
+    /// An equal table in memory of its own.
+    pub fn copy(&self, alloc: Global) -> Result<Table, ShapeFault>
+        ensures ok { IfOk result (λ copied. copied ≡ self.now) }
+        ensures cause { IfErr result (λ fault. fault ≡ Memory) }
+    {
+        let rows = copied_rows(alloc, self.rows.as_slice())?;
+        Ok(Table {
+            rows: List::from_vec(rows),
+        })
     }
 
     /// The value at the point, found by halving.

@@ -27,7 +27,7 @@ input_found p tables x variable d params k i h depth found.Stopped g = absurd g
 pub returns-then-not-is_readable : goal.returns-then-not-is_readable
 returns-then-not-is_readable c =
     let p = c.args.program.now in
-    let declared : slice_get p.variables c.args.x ≡ Some c.in-Some.variable.now = subst (λ vs. slice_get vs c.args.x ≡ Some c.in-Some.variable.now) c.variables.ensures (sym c.in-Some.ensures) in
+    let declared : slice_get p.variables c.args.x ≡ Some c.in-Some.variable.now = subst (λ vs. slice_get vs c.args.x ≡ Some c.in-Some.variable.now) c.variables.ensures.value (sym c.in-Some.ensures) in
     let unreadable : IsUnreadable (length p.params) c.in-Some.variable.now.domain.width c.args.point.now = search rules in
     λ depth. unreadable-stops p c.args.inputs.now c.args.x c.in-Some.variable.now declared (take (length p.params) c.args.point.now) (drop (length p.params) c.args.point.now) (StopsBelow p depth)
     (subst (λ z. IsUnreadable (length p.params) c.in-Some.variable.now.domain.width z) (split p c.args.point.now) unreadable)
@@ -35,7 +35,7 @@ returns-then-not-is_readable c =
 pub returns-then-not-holds : goal.returns-then-not-holds
 returns-then-not-holds c =
     let p = c.args.program.now in
-    let declared : slice_get p.variables c.args.x ≡ Some c.in-Some.variable.now = subst (λ vs. slice_get vs c.args.x ≡ Some c.in-Some.variable.now) c.variables.ensures (sym c.in-Some.ensures) in
+    let declared : slice_get p.variables c.args.x ≡ Some c.in-Some.variable.now = subst (λ vs. slice_get vs c.args.x ≡ Some c.in-Some.variable.now) c.variables.ensures.value (sym c.in-Some.ensures) in
     let not_held : HoldsSome c.in-Some.variable.now.domain c.args.point.now → ⊥ = search rules in
     λ depth v g. not_held (subst (λ z. HoldsSome c.in-Some.variable.now.domain z) (take-append-drop (length p.params) c.args.point.now)
     (read-parts p c.args.inputs.now c.args.x c.in-Some.variable.now declared (take (length p.params) c.args.point.now) (drop (length p.params) c.args.point.now) (ValueBelow p c.args.inputs.now depth) v g).0)
@@ -43,7 +43,7 @@ returns-then-not-holds c =
 pub returns-then-eq : goal.returns-then-eq
 returns-then-eq c =
     let p = c.args.program.now in
-    let declared : slice_get p.variables c.args.x ≡ Some c.in-Some.variable.now = subst (λ vs. slice_get vs c.args.x ≡ Some c.in-Some.variable.now) c.variables.ensures (sym c.in-Some.ensures) in
+    let declared : slice_get p.variables c.args.x ≡ Some c.in-Some.variable.now = subst (λ vs. slice_get vs c.args.x ≡ Some c.in-Some.variable.now) c.variables.ensures.value (sym c.in-Some.ensures) in
     let held : HoldsSome c.in-Some.variable.now.domain c.args.point.now = search rules in
     let input : IsInput c.in-Some.variable.now.role = search rules in
     let given : FoundIs (λ v. InputGives c.args.inputs.now c.args.x (drop (length p.params) c.args.point.now) v) ⊥ c.input_value.result = search rules in
@@ -53,7 +53,7 @@ returns-then-eq c =
 pub returns-in-Some-equation_of : goal.returns-in-Some-equation_of
 returns-in-Some-equation_of c =
     let p = c.args.program.now in
-    let declared : slice_get p.variables c.args.x ≡ Some c.in-Some.variable.now = subst (λ vs. slice_get vs c.args.x ≡ Some c.in-Some.variable.now) c.variables.ensures (sym c.in-Some.ensures) in
+    let declared : slice_get p.variables c.args.x ≡ Some c.in-Some.variable.now = subst (λ vs. slice_get vs c.args.x ≡ Some c.in-Some.variable.now) c.variables.ensures.value (sym c.in-Some.ensures) in
     let held : HoldsSome c.in-Some.variable.now.domain c.args.point.now = search rules in
     let no_input : IsInput c.in-Some.variable.now.role → ⊥ = search rules in
     record {
@@ -62,13 +62,13 @@ returns-in-Some-equation_of c =
       held = subst (λ z. HoldsSome c.in-Some.variable.now.domain z) (split p c.args.point.now) held;
       no_input = no_input;
       equation = c.in-Some-equation_of.equation.now;
-      found = subst (λ es. equation_of es c.args.x ≡ Some c.in-Some-equation_of.equation.now) c.equations.ensures (sym c.in-Some-equation_of.ensures);
+      found = subst (λ es. equation_of es c.args.x ≡ Some c.in-Some-equation_of.equation.now) c.equations.ensures.value (sym c.in-Some-equation_of.ensures);
       body = refl;
     }
 
 pub returns-in-None : goal.returns-in-None
 returns-in-None c =
     let p = c.args.program.now in
-    let declared : slice_get p.variables c.args.x ≡ Some c.in-Some.variable.now = subst (λ vs. slice_get vs c.args.x ≡ Some c.in-Some.variable.now) c.variables.ensures (sym c.in-Some.ensures) in
+    let declared : slice_get p.variables c.args.x ≡ Some c.in-Some.variable.now = subst (λ vs. slice_get vs c.args.x ≡ Some c.in-Some.variable.now) c.variables.ensures.value (sym c.in-Some.ensures) in
     let no_input : IsInput c.in-Some.variable.now.role → ⊥ = search rules in
-    λ depth v g. no_body-none p c.args.inputs.now c.args.x c.in-Some.variable.now declared (take (length p.params) c.args.point.now) (drop (length p.params) c.args.point.now) (ValueBelow p c.args.inputs.now depth) v no_input (subst (λ es. equation_of es c.args.x ≡ None) c.equations.ensures (sym c.in-None.ensures)) g
+    λ depth v g. no_body-none p c.args.inputs.now c.args.x c.in-Some.variable.now declared (take (length p.params) c.args.point.now) (drop (length p.params) c.args.point.now) (ValueBelow p c.args.inputs.now depth) v no_input (subst (λ es. equation_of es c.args.x ≡ None) c.equations.ensures.value (sym c.in-None.ensures)) g

@@ -1,0 +1,4 @@
+pub mod Sides
+pub mod Domains
+pub mod Expressions
+pub mod Programs

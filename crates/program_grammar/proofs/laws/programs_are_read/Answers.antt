@@ -1,0 +1,5 @@
+use Rattle.program_grammar.proofs.Programs.{program_verdict}
+use Rattle.program_grammar.proofs.laws.programs_are_read.Goals as goal
+
+pub returns : goal.returns
+returns c = program_verdict

@@ -1,0 +1,5 @@
+pub mod Words
+pub mod Nodes
+pub mod Values
+pub mod Grammar
+pub mod Readers

@@ -1,0 +1,14 @@
+//! The grammar of programs, and the program of a text as it is written.
+//!
+//! `specs/Grammar.antt` has the grammar as rules, and `specs/Readings.antt` what is answered for a
+//! text: its program, exactly for a sentence, or the cause and the exact place.
+#![tactic(auto)]
+
+mod laws;
+mod tree;
+
+pub use laws::programs_are_read;
+
+pub use tree::{
+    Branch, Chain, Declaration, Equation, Expr, Link, Operator, ProgramText, Relation, Term,
+};

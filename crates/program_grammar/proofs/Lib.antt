@@ -1,4 +1,4 @@
-pub mod Sides
-pub mod Domains
-pub mod Expressions
-pub mod Programs
+pub mod SideRules
+pub mod DomainRules
+pub mod ExprRules
+pub mod ProgramRules

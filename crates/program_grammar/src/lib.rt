@@ -4,8 +4,11 @@
 //! text: its program, exactly for a sentence, or the cause and the exact place.
 #![tactic(auto)]
 
+mod domains;
 mod laws;
+mod sides;
 mod tree;
+mod words;
 
 pub use laws::programs_are_read;
 

@@ -13,6 +13,7 @@ use Rattle.grammar_rules.proofs.Mapped.{mapped_exact}
 use Rattle.grammar_rules.proofs.Sequence.{sequence_exact}
 use Rattle.grammar_rules.proofs.Token.{token_exact, nothing_exact}
 use Rattle.grammar_rules.proofs.Tokens.{mark_within, number_within, name_within, keyword_within, chosen_within}
+use Rattle.grammar_rules.proofs.Turns.{Advances, exact_advances}
 use Rattle.program_grammar.specs.Words.{reserved, class, signs, mark, keyword, name, number, one_of, read_mark, read_keyword, read_name, read_number, read_one_of}
 use Rattle.program_grammar.specs.Values.{behind, before, pair, once, signed}
 use Rattle.program_grammar.specs.Grammar.{names, indices, scaled, signed_term, first_term, affine, comma_list, rows_in_brackets}
@@ -94,3 +95,13 @@ affines_exact depth =
 
 pub rows_in_brackets_exact : (depth : ℕ) → Follows (token_shape (2 ∷ [])) depth rows_in_brackets read_rows_in_brackets
 rows_in_brackets_exact depth = sequence_exact behind (mark_exact OpenBracket 0 depth) (sequence_exact before (affines_exact depth) (mark_exact CloseBracket 0 depth) refl) refl
+
+-- what the loops need: each member takes a token
+pub next_name_advances : Advances read_next_name
+next_name_advances = exact_advances (next_name_exact 0) refl
+
+pub signed_term_advances : Advances read_signed_term
+signed_term_advances = exact_advances (signed_term_exact 0) refl
+
+pub next_affine_advances : Advances read_next_affine
+next_affine_advances = exact_advances (next_affine_exact 0) refl

@@ -14,9 +14,9 @@ use Rattle.program_grammar.specs.Values as value
 use Rattle.program_grammar.specs.Values.{behind, before, pair}
 use Rattle.program_grammar.specs.Grammar.{nodes_and_parentheses, nodes_at_most, equation_body, equation, equations, sections, program}
 use Rattle.program_grammar.specs.Readers.{read_equation_body, read_equation, read_equations, read_sections, read_program}
-use Rattle.program_grammar.proofs.Sides.{Follows, mark_exact, name_exact, keyword_exact, indices_exact}
-use Rattle.program_grammar.proofs.Domains.{domain_rows_exact, input_exact, output_exact, local_exact}
-use Rattle.program_grammar.proofs.Expressions.{expr_exact, expr_shape}
+use Rattle.program_grammar.proofs.SideRules.{Follows, mark_exact, name_exact, keyword_exact, indices_exact}
+use Rattle.program_grammar.proofs.DomainRules.{domain_rows_exact, input_exact, output_exact, local_exact}
+use Rattle.program_grammar.proofs.ExprRules.{expr_exact, expr_shape}
 
 abbrev equation_body_shape : Shape
 equation_body_shape = record { first = 25 ∷ []; empty = false; more = expr_shape.more }

@@ -10,12 +10,13 @@ use Rattle.grammar_rules.proofs.Choice.{choice_exact, optional_exact}
 use Rattle.grammar_rules.proofs.Many.{list_of_exact}
 use Rattle.grammar_rules.proofs.Sequence.{sequence_exact}
 use Rattle.grammar_rules.proofs.Token.{nothing_exact}
+use Rattle.grammar_rules.proofs.Turns.{Advances, exact_advances}
 use Rattle.program_grammar.specs.Words.{class, relations, mark}
 use Rattle.program_grammar.specs.Values as value
 use Rattle.program_grammar.specs.Values.{behind, before, pair}
 use Rattle.program_grammar.specs.Grammar.{link, chain, rows, disjuncts, behind_bar, domain, restriction, width_word, declaration, section}
 use Rattle.program_grammar.specs.Readers.{read_link, read_chain, read_next_chain, read_rows, read_next_rows, read_disjuncts, read_behind_bar, read_domain, read_restriction, read_width_word, read_declaration, read_declarations, read_section}
-use Rattle.program_grammar.proofs.Sides.{Follows, mark_exact, name_exact, keyword_exact, one_of_exact, names_exact, affine_exact, affine_shape}
+use Rattle.program_grammar.proofs.SideRules.{Follows, mark_exact, name_exact, keyword_exact, one_of_exact, names_exact, affine_exact, affine_shape}
 
 abbrev link_shape : Shape
 link_shape = record { first = 14 ∷ 15 ∷ 16 ∷ 17 ∷ 12 ∷ 13 ∷ []; empty = false; more = affine_shape.more }
@@ -105,3 +106,16 @@ output_exact depth = choice_exact (28 ∷ []) (sequence_exact behind (keyword_ex
 
 pub local_exact : (depth : ℕ) → Follows (section_shape 29) depth (section (codes "local")) (read_section 29 (codes "local"))
 local_exact depth = choice_exact (29 ∷ []) (sequence_exact behind (keyword_exact (codes "local") 0 depth) (declarations_exact depth) refl) (nothing_exact class [] depth) refl refl refl
+
+-- what the loops need: each member takes a token
+pub link_advances : Advances read_link
+link_advances = exact_advances (link_exact 0) refl
+
+pub next_chain_advances : Advances read_next_chain
+next_chain_advances = exact_advances (next_chain_exact 0) refl
+
+pub next_rows_advances : Advances read_next_rows
+next_rows_advances = exact_advances (next_rows_exact 0) refl
+
+pub declaration_advances : Advances read_declaration
+declaration_advances = exact_advances (declaration_exact 0) refl

@@ -77,15 +77,19 @@ pub domain_rows_exact : (depth : ℕ) → Follows (token_shape (0 ∷ [])) depth
 domain_rows_exact depth = domain_exact depth rows read_rows (rows_behind_bar depth)
 
 -- declarations
-width_word_exact : (depth : ℕ) → Follows (token_shape (31 ∷ 32 ∷ [])) depth width_word read_width_word
-width_word_exact depth = choice_exact (31 ∷ []) (keyword_exact (codes "int") 0 depth) (keyword_exact (codes "long") 0 depth) refl refl refl
+abbrev width_word_shape : Shape
+width_word_shape = record { first = 31 ∷ 32 ∷ []; empty = true; more = 31 ∷ 32 ∷ [] }
+
+width_word_exact : (depth : ℕ) → Follows width_word_shape depth width_word read_width_word
+width_word_exact depth =
+    choice_exact (31 ∷ 32 ∷ []) (choice_exact (31 ∷ []) (keyword_exact (codes "int") 0 depth) (keyword_exact (codes "long") 0 depth) refl refl refl) (nothing_exact class tt depth) refl refl refl
 
 abbrev declaration_shape : Shape
 declaration_shape = token_shape (31 ∷ 32 ∷ 25 ∷ [])
 
 pub declaration_exact : (depth : ℕ) → Follows declaration_shape depth declaration read_declaration
 declaration_exact depth =
-    sequence_exact behind (optional_exact (31 ∷ 32 ∷ []) (width_word_exact depth) refl refl)
+    sequence_exact behind (width_word_exact depth)
     (sequence_exact value.declared (name_exact 0 depth)
     (sequence_exact before (domain_exact depth disjuncts read_disjuncts (disjuncts_behind_bar depth)) (mark_exact Semicolon 0 depth) refl) refl) refl
 

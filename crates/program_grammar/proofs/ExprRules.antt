@@ -1,10 +1,11 @@
 -- The readers of expressions follow their rules.
-use Rattle.std.proofs.Common.{◌≡◌, ℕ, suc, true, false, List, [], ◌∷◌, refl}
+use Rattle.std.proofs.Common.{◌≡◌, ℕ, suc, true, false, List, [], ◌∷◌, refl, ap, length}
 use Rattle.std.specs.Prelude.{codes}
 use Rattle.az_text.specs.declared.mark.MarkKind.TheVariants.{OpenBracket, CloseBracket, OpenParen, CloseParen, Comma, Colon, Semicolon, Minus, Star}
 use Rattle.az_text.specs.declared.token.Token.{Token}
 use Rattle.grammar_rules.specs.Rules.{Rule, sequence, list_of}
 use Rattle.grammar_rules.specs.Readers.{Reader, read_level}
+use Rattle.grammar_rules.specs.Readers.Answer.{wrong}
 use Rattle.grammar_rules.specs.Exactness.{Shape, Exact, token_shape, sequence_shape, choice_shape, many_shape}
 use Rattle.grammar_rules.specs.Tokens.{mark_of, keyword_of, chosen_of, classes}
 use Rattle.grammar_rules.proofs.Choice.{choice_exact, optional_exact}
@@ -12,6 +13,7 @@ use Rattle.grammar_rules.proofs.Many.{left_exact, list_of_exact}
 use Rattle.grammar_rules.proofs.Mapped.{mapped_exact}
 use Rattle.grammar_rules.proofs.Recursive.{recursive_exact}
 use Rattle.grammar_rules.proofs.Sequence.{sequence_exact, guarded_exact}
+use Rattle.grammar_rules.proofs.Turns.{Advances, exact_advances}
 use Rattle.grammar_rules.proofs.Tokens.{mark_within, keyword_within, chosen_within}
 use Rattle.program_grammar.specs.declared.tree.Expr.{Expr}
 use Rattle.program_grammar.specs.declared.tree.Expr.TheVariants as form
@@ -153,3 +155,21 @@ expr_body_exact depth sure rule reader inner =
 pub expr_exact : (depth : ℕ) → Follows expr_shape depth expr (read_expr depth)
 unfolding read_expr
 expr_exact depth = recursive_exact class expr_shape expr_body read_expr_body expr_body_exact depth
+
+-- what the loops need: each member takes a token, and the depths
+pub factor_advances : (depth : ℕ) → Advances (read_factor (read_expr depth))
+factor_advances depth = exact_advances (factor_exact depth expr expr (read_expr depth) (expr_exact depth)) refl
+
+pub summand_advances : (depth : ℕ) → Advances (read_summand (read_expr depth))
+summand_advances depth = exact_advances (summand_exact depth expr expr (read_expr depth) (expr_exact depth)) refl
+
+pub branch_advances : (depth : ℕ) → Advances (read_branch (read_expr depth))
+branch_advances depth = exact_advances (branch_exact depth expr expr (read_expr depth) (expr_exact depth)) refl
+
+pub at_ground : (b : ℕ) (ts : List Token) → read_expr 0 b ts ≡ wrong (length ts)
+unfolding read_expr
+at_ground b ts = refl
+
+pub deeper : (depth below b : ℕ) (ts : List Token) → depth ≡ suc below → read_expr depth b ts ≡ read_expr_body (read_expr below) b ts
+unfolding read_expr
+deeper depth below b ts is = ap (λ (n : ℕ). read_level read_expr_body n b ts) is

@@ -1,5 +1,5 @@
 -- The readers of equations and of whole programs follow their rules.
-use Rattle.std.proofs.Common.{◌≡◌, ℕ, ◌+◌, ◌-◌, true, false, List, [], ◌∷◌, refl, arith}
+use Rattle.std.proofs.Common.{◌≡◌, ℕ, ◌+◌, true, false, List, [], ◌∷◌, refl, arith}
 use Rattle.std.specs.Prelude.{codes}
 use Rattle.az_text.specs.declared.mark.MarkKind.TheVariants.{Semicolon, Dot, Equal}
 use Rattle.az_text.specs.declared.token.Token.{Token}
@@ -8,12 +8,12 @@ use Rattle.grammar_rules.specs.Whole.{IsVerdict, verdict}
 use Rattle.grammar_rules.proofs.Fresh.{fresh_exact}
 use Rattle.grammar_rules.proofs.Many.{many_exact}
 use Rattle.grammar_rules.proofs.Sequence.{sequence_exact, followed_exact}
+use Rattle.grammar_rules.proofs.Turns.{Advances, exact_advances}
 use Rattle.grammar_rules.proofs.Whole.{verdict_exact}
-use Rattle.program_grammar.specs.Nodes.{nodes}
 use Rattle.program_grammar.specs.Values as value
 use Rattle.program_grammar.specs.Values.{behind, before, pair}
-use Rattle.program_grammar.specs.Grammar.{nodes_and_parentheses, nodes_at_most, equation_body, equation, equations, sections, program}
-use Rattle.program_grammar.specs.Readers.{read_equation_body, read_equation, read_equations, read_sections, read_program}
+use Rattle.program_grammar.specs.Grammar.{nodes_and_parentheses, weight_of_end, equation_body, equation, equations, sections, header, program}
+use Rattle.program_grammar.specs.Readers.{read_equation_body, read_equation, read_equations, read_sections, read_header, read_program}
 use Rattle.program_grammar.proofs.SideRules.{Follows, mark_exact, name_exact, keyword_exact, indices_exact}
 use Rattle.program_grammar.proofs.DomainRules.{domain_rows_exact, input_exact, output_exact, local_exact}
 use Rattle.program_grammar.proofs.ExprRules.{expr_exact, expr_shape}
@@ -27,21 +27,31 @@ equation_body_exact depth =
 
 pub equation_exact : Follows (token_shape (25 ∷ [])) 1 equation read_equation
 equation_exact =
-    followed_exact before (fresh_exact nodes_and_parentheses 1 (equation_body_exact (1 + nodes_and_parentheses))) (λ e. mark_exact Semicolon (nodes e.body - nodes_at_most) 1) refl
+    followed_exact before (fresh_exact nodes_and_parentheses 1 (equation_body_exact (1 + nodes_and_parentheses))) (λ e. mark_exact Semicolon (weight_of_end e.body) 1) refl
 
 equations_exact : Follows (token_shape (30 ∷ [])) 1 equations read_equations
 equations_exact = sequence_exact behind (keyword_exact (codes "let") 0 1) (sequence_exact before (many_exact (25 ∷ []) equation_exact refl refl refl) (mark_exact Dot 0 1) refl) refl
 
 abbrev sections_shape : Shape
-sections_shape = token_shape (27 ∷ 28 ∷ 29 ∷ 30 ∷ [])
+sections_shape = record { first = 27 ∷ 28 ∷ 29 ∷ []; empty = true; more = 27 ∷ 25 ∷ 31 ∷ 32 ∷ 28 ∷ 25 ∷ 31 ∷ 32 ∷ 29 ∷ 25 ∷ 31 ∷ 32 ∷ [] }
 
 sections_exact : Follows sections_shape 1 sections read_sections
-sections_exact = sequence_exact pair (input_exact 1) (sequence_exact pair (output_exact 1) (sequence_exact pair (local_exact 1) equations_exact refl) refl) refl
+sections_exact = sequence_exact pair (input_exact 1) (sequence_exact pair (output_exact 1) (local_exact 1) refl) refl
+
+abbrev header_shape : Shape
+header_shape = record { first = 26 ∷ []; empty = false; more = sections_shape.more }
+
+pub header_exact : Follows header_shape 1 header read_header
+header_exact =
+    sequence_exact behind (keyword_exact (codes "affine") 0 1)
+    (sequence_exact pair (name_exact 0 1) (sequence_exact pair (domain_rows_exact 1) sections_exact refl) refl) refl
 
 program_exact : Follows (token_shape (26 ∷ [])) 1 program read_program
-program_exact =
-    sequence_exact behind (keyword_exact (codes "affine") 0 1)
-    (sequence_exact value.program (name_exact 0 1) (sequence_exact pair (domain_rows_exact 1) sections_exact refl) refl) refl
+program_exact = sequence_exact value.program header_exact equations_exact refl
 
 pub program_verdict : (ts : List Token) → IsVerdict program 0 ts (verdict (read_program 0 ts))
 program_verdict ts = verdict_exact program_exact 0 ts (omega arith)
+
+-- what the loop over equations needs
+pub equation_advances : Advances read_equation
+equation_advances = exact_advances equation_exact refl

@@ -5,7 +5,7 @@
 --   part    = NUMBER [ [ "*" ] NAME ] | NAME              for NUMBER | NUMBER "*" NAME | NUMBER NAME | NAME
 --   unary   = "-" ( NUMBER | operand ) | NUMBER | operand  where a minus and a number are one constant
 --   access  = NAME [ "[" affines "]" ]                     for NAME | NAME "[" affines "]"
-use Rattle.std.specs.Prelude.{ℕ, ◌-◌, List, [], ◌∷◌, Option, Some, None, Bool, true, false, codes}
+use Rattle.std.specs.Prelude.{ℕ, if◌then◌else◌, nat_le, List, [], ◌∷◌, Option, Some, None, Bool, true, false, codes}
 use Rattle.az_text.specs.declared.mark.MarkKind.TheVariants.{OpenBrace, CloseBrace, OpenBracket, CloseBracket, OpenParen, CloseParen, Bar, BarBar, Comma, Colon, Semicolon, Dot, Equal, AndAnd, Minus, Star}
 use Rattle.az_text.specs.declared.token.Token.{Token}
 use Rattle.grammar_rules.specs.Rules.{Rule, give, mapped_to, sequence, followed, choice, optional, many, left, list_of, fresh, recursive}
@@ -72,11 +72,12 @@ domain p = sequence behind (mark OpenBrace 0) (sequence pair names (behind_bar p
 abbrev pub restriction : {A : Type 0} → ℕ → Rule Token A → Rule Token A
 restriction weight p = sequence behind (mark OpenBrace weight) (behind_bar p)
 
+-- `int` and `long` say nothing more
 abbrev pub width_word : Rule Token (Unit {0})
-width_word = choice (keyword (codes "int") 0) (keyword (codes "long") 0)
+width_word = choice (choice (keyword (codes "int") 0) (keyword (codes "long") 0)) (give tt)
 
 abbrev pub declaration : Rule Token Declaration
-declaration = sequence behind (optional width_word) (sequence value.declared (name 0) (sequence before (domain disjuncts) (mark Semicolon 0)))
+declaration = sequence behind width_word (sequence value.declared (name 0) (sequence before (domain disjuncts) (mark Semicolon 0)))
 
 abbrev pub section : List ℕ → Rule Token (List Declaration)
 section word = choice (sequence behind (keyword word 0) (list_of declaration declaration)) (give [])
@@ -134,7 +135,7 @@ abbrev pub expr : Rule Token Expr
 expr = recursive expr_body
 
 -- Equations. Each has a limit of its own on nodes and opened parentheses together, and only what it
--- weighs above it counts; so do the nodes above the limit on nodes, at the semicolon.
+-- weighs above it counts. Its semicolon weighs 1 behind more nodes than the limit on nodes.
 abbrev pub nodes_and_parentheses : ℕ
 nodes_and_parentheses = 1024
 
@@ -144,15 +145,21 @@ nodes_at_most = 512
 abbrev pub equation_body : Rule Token Equation
 equation_body = sequence value.equation (name 0) (sequence pair indices (sequence behind (mark Equal 0) expr))
 
+abbrev pub weight_of_end : Expr → ℕ
+weight_of_end e = if nat_le (nodes e) nodes_at_most then 0 else 1
+
 abbrev pub equation : Rule Token Equation
-equation = followed before (fresh nodes_and_parentheses equation_body) (λ e. mark Semicolon (nodes e.body - nodes_at_most))
+equation = followed before (fresh nodes_and_parentheses equation_body) (λ e. mark Semicolon (weight_of_end e.body))
 
 -- the whole program, whose limit of weight is 0
 abbrev pub equations : Rule Token (List Equation)
 equations = sequence behind (keyword (codes "let") 0) (sequence before (many equation) (mark Dot 0))
 
 abbrev pub sections : Rule Token value.Sections
-sections = sequence pair (section (codes "input")) (sequence pair (section (codes "output")) (sequence pair (section (codes "local")) equations))
+sections = sequence pair (section (codes "input")) (sequence pair (section (codes "output")) (section (codes "local")))
+
+abbrev pub header : Rule Token value.Header
+header = sequence behind (keyword (codes "affine") 0) (sequence pair (name 0) (sequence pair (domain rows) sections))
 
 abbrev pub program : Rule Token ProgramText
-program = sequence behind (keyword (codes "affine") 0) (sequence value.program (name 0) (sequence pair (domain rows) sections))
+program = sequence value.program header equations

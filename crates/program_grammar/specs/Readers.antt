@@ -14,11 +14,10 @@ use Rattle.program_grammar.specs.declared.tree.Link.{Link}
 use Rattle.program_grammar.specs.declared.tree.Operator.{Operator}
 use Rattle.program_grammar.specs.declared.tree.ProgramText.{ProgramText}
 use Rattle.program_grammar.specs.declared.tree.Term.{Term}
-use Rattle.program_grammar.specs.Nodes.{nodes}
 use Rattle.program_grammar.specs.Values as value
 use Rattle.program_grammar.specs.Values.{behind, before, pair, Scaled}
 use Rattle.program_grammar.specs.Words.{class, signs, relations, functions, folds, read_mark, read_keyword, read_name, read_number, read_one_of}
-use Rattle.program_grammar.specs.Grammar.{nodes_and_parentheses, nodes_at_most}
+use Rattle.program_grammar.specs.Grammar.{nodes_and_parentheses, weight_of_end}
 
 -- behind a comma
 abbrev pub read_next_name : Reader Token (List ℕ)
@@ -84,11 +83,11 @@ abbrev pub read_restriction : {A : Type 0} → ℕ → Reader Token A → Reader
 read_restriction weight p = read_sequence behind (read_mark OpenBrace weight) (read_behind_bar p)
 
 abbrev pub read_width_word : Reader Token (Unit {0})
-read_width_word = read_choice class (31 ∷ []) (read_keyword (codes "int") 0) (read_keyword (codes "long") 0)
+read_width_word = read_choice class (31 ∷ 32 ∷ []) (read_choice class (31 ∷ []) (read_keyword (codes "int") 0) (read_keyword (codes "long") 0)) (read_nothing tt)
 
 abbrev pub read_declaration : Reader Token Declaration
 read_declaration =
-    read_sequence behind (read_optional class (31 ∷ 32 ∷ []) read_width_word)
+    read_sequence behind read_width_word
     (read_sequence value.declared (read_name 0) (read_sequence before (read_domain read_disjuncts) (read_mark Semicolon 0)))
 
 abbrev pub read_declarations : Reader Token (List Declaration)
@@ -173,14 +172,16 @@ read_equation_body depth = read_sequence value.equation (read_name 0) (read_sequ
 
 abbrev pub read_equation : Reader Token Equation
 read_equation =
-    read_followed before (read_fresh nodes_and_parentheses (read_equation_body (1 + nodes_and_parentheses))) (λ e. read_mark Semicolon (nodes e.body - nodes_at_most))
+    read_followed before (read_fresh nodes_and_parentheses (read_equation_body (1 + nodes_and_parentheses))) (λ e. read_mark Semicolon (weight_of_end e.body))
 
 abbrev pub read_equations : Reader Token (List Equation)
 read_equations = read_sequence behind (read_keyword (codes "let") 0) (read_sequence before (read_many class (25 ∷ []) read_equation) (read_mark Dot 0))
 
 abbrev pub read_sections : Reader Token value.Sections
-read_sections =
-    read_sequence pair (read_section 27 (codes "input")) (read_sequence pair (read_section 28 (codes "output")) (read_sequence pair (read_section 29 (codes "local")) read_equations))
+read_sections = read_sequence pair (read_section 27 (codes "input")) (read_sequence pair (read_section 28 (codes "output")) (read_section 29 (codes "local")))
+
+abbrev pub read_header : Reader Token value.Header
+read_header = read_sequence behind (read_keyword (codes "affine") 0) (read_sequence pair (read_name 0) (read_sequence pair (read_domain read_rows) read_sections))
 
 abbrev pub read_program : Reader Token ProgramText
-read_program = read_sequence behind (read_keyword (codes "affine") 0) (read_sequence value.program (read_name 0) (read_sequence pair (read_domain read_rows) read_sections))
+read_program = read_sequence value.program read_header read_equations

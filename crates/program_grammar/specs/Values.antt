@@ -53,8 +53,11 @@ read_at name (Some rows) = Access name rows
 abbrev pub product : Expr → Expr → Expr
 product a b = Binary Multiply a b
 
+abbrev pub operator_of : Bool → Operator
+operator_of negative = if negative then Subtract else Add
+
 abbrev pub sum : Expr → Bool × Expr → Expr
-sum a term = Binary (if term.0 then Subtract else Add) a term.1
+sum a term = Binary (operator_of term.0) a term.1
 
 abbrev pub call : Operator → Expr × Expr → Expr
 call op operands = Binary op operands.0 operands.1
@@ -73,16 +76,20 @@ abbrev pub equation : List ℕ → List (List ℕ) × Expr → Equation
 equation variable rest = record { variable = variable; indices = rest.0; body = rest.1 }
 
 abbrev pub Sections : Type 0
-Sections = List Declaration × (List Declaration × (List Declaration × List Equation))
+Sections = List Declaration × (List Declaration × List Declaration)
 
-abbrev pub program : List ℕ → (List (List ℕ) × List Chain) × Sections → ProgramText
-program name rest =
+-- the name, the parameters with their domain, and the declarations
+abbrev pub Header : Type 0
+Header = List ℕ × ((List (List ℕ) × List Chain) × Sections)
+
+abbrev pub program : Header → List Equation → ProgramText
+program header equations =
     record {
-      name = name;
-      params = rest.0.0;
-      domain = rest.0.1;
-      inputs = rest.1.0;
-      outputs = rest.1.1.0;
-      locals = rest.1.1.1.0;
-      equations = rest.1.1.1.1;
+      name = header.0;
+      params = header.1.0.0;
+      domain = header.1.0.1;
+      inputs = header.1.1.0;
+      outputs = header.1.1.1.0;
+      locals = header.1.1.1.1;
+      equations = equations;
     }

@@ -158,7 +158,7 @@ pub(crate) fn domain_of_rows(
     Ok(((names, chains), end))
 }
 
-fn domain(
+pub(crate) fn domain(
     alloc: Global,
     cursor: Cursor<'_>,
 ) -> Result<(Named<List<Chain>>, Cursor<'_>), ReadError>

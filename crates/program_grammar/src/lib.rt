@@ -4,7 +4,9 @@
 //! text: its program, exactly for a sentence, or the cause and the exact place.
 #![tactic(auto)]
 
+mod declarations;
 mod domains;
+mod expressions;
 mod laws;
 mod sides;
 mod tree;

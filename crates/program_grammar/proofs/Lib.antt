@@ -1,3 +1,4 @@
+pub mod NodeLemmas
 pub mod SideRules
 pub mod DomainRules
 pub mod ExprRules

@@ -1,6 +1,7 @@
 -- The nodes of an expression: constants, index expressions, accesses, negations, operators, cases and
 -- reductions.
-use Rattle.std.specs.Prelude.{ℕ, ◌+◌, List, [], ◌∷◌}
+use Rattle.std.specs.Prelude.{ℕ, ◌+◌, List, [], ◌∷◌, map}
+use Rattle.program_grammar.specs.declared.tree.Branch.{Branch}
 use Rattle.program_grammar.specs.declared.tree.Expr.{Expr}
 use Rattle.program_grammar.specs.declared.tree.Expr.TheFolds.{fold-Expr}
 use Rattle.program_grammar.specs.declared.tree.Expr.TheOpen.{Expr-F, Branch-F}
@@ -24,3 +25,6 @@ nodes_of_branch branch = branch.body
 
 abbrev pub nodes : Expr → ℕ
 nodes = fold-Expr ℕ ℕ nodes_of_layer nodes_of_branch
+
+abbrev pub nodes_of_bodies : List Branch → ℕ
+nodes_of_bodies branches = total (map (λ (b : Branch). nodes b.body) branches)

@@ -9,6 +9,7 @@ mod domains;
 mod expressions;
 mod laws;
 mod sides;
+mod size;
 mod tree;
 mod words;
 

@@ -1,10 +1,19 @@
 -- The readers of equations and of whole programs follow their rules.
-use Rattle.std.proofs.Common.{◌≡◌, ℕ, ◌+◌, true, false, List, [], ◌∷◌, refl, arith}
+use Rattle.std.proofs.Common.{◌≡◌, ℕ, ◌+◌, true, false, List, [], ◌∷◌, refl, arith, ap, subst, Result, Ok, Err}
 use Rattle.std.specs.Prelude.{codes}
 use Rattle.az_text.specs.declared.mark.MarkKind.TheVariants.{Semicolon, Dot, Equal}
 use Rattle.az_text.specs.declared.token.Token.{Token}
-use Rattle.grammar_rules.specs.Exactness.{Shape, token_shape}
+use Rattle.grammar_rules.specs.Rules.{Rule}
+use Rattle.std.proofs.Math.Nat.{zero-min}
+use Rattle.grammar_rules.specs.declared.fault.ReadError.{ReadError}
+use Rattle.grammar_rules.specs.declared.fault.ReadError.TheVariants.{Syntax, Size, Memory}
+use Rattle.grammar_rules.specs.Gives.{Gives, Passes}
+use Rattle.grammar_rules.specs.Readers.{Answer, Reader, after, read_nothing}
+use Rattle.grammar_rules.specs.Readers.Answer.{got}
+use Rattle.grammar_rules.specs.Exactness.{Shape, Says, token_shape}
+use Rattle.program_grammar.specs.declared.tree.Equation.{Equation}
 use Rattle.grammar_rules.specs.Whole.{IsVerdict, verdict}
+use Rattle.program_grammar.specs.Words.{read_mark}
 use Rattle.grammar_rules.proofs.Fresh.{fresh_exact}
 use Rattle.grammar_rules.proofs.Many.{many_exact}
 use Rattle.grammar_rules.proofs.Sequence.{sequence_exact, followed_exact}
@@ -55,3 +64,36 @@ program_verdict ts = verdict_exact program_exact 0 ts (omega arith)
 -- what the loop over equations needs
 pub equation_advances : Advances read_equation
 equation_advances = exact_advances equation_exact refl
+
+-- what is read without a budget leaves none
+spends_none : {A : Type 0} {shape : Shape} {rule : Rule Token A} {reader : Reader Token A} → Follows shape 1 rule reader
+    → (ts : List Token) (a : A) (rest : List Token) (r : ℕ) → reader 0 ts ≡ got a rest r → r ≡ 0
+spends_none {rule = rule} exact ts a rest r is = let says : Says rule 0 ts (got a rest r) = subst (Says rule 0 ts) is (exact.says 0 ts) in let paid = says.3 in omega arith
+
+pub equation_spends_none : (ts : List Token) (e : Equation) (rest : List Token) (r : ℕ) → read_equation 0 ts ≡ got e rest r → r ≡ 0
+equation_spends_none = spends_none equation_exact
+
+pub header_spends_none : (ts : List Token) (h : value.Header) (rest : List Token) (r : ℕ) → read_header 0 ts ≡ got h rest r → r ≡ 0
+header_spends_none = spends_none header_exact
+
+-- how an equation goes on behind its body, and a program behind its header
+pub equation_after : (ts rest : List Token) (e : Equation) (r : ℕ) → read_equation_body 1025 1024 ts ≡ got e rest r
+    → read_equation 0 ts ≡ after (read_mark Semicolon (weight_of_end e.body) 0 rest) (λ x. read_nothing e)
+equation_after ts rest e r is = rw is (ap (λ (b : ℕ). after (read_mark Semicolon (weight_of_end e.body) b rest) (λ x. read_nothing e)) (zero-min r))
+
+pub program_after : (b : ℕ) (ts rest : List Token) (h : value.Header) (r : ℕ) → b ≡ 0 → read_header b ts ≡ got h rest r
+    → read_program b ts ≡ after (read_equations 0 rest) (λ es. read_nothing (value.program h es))
+program_after b ts rest h r zero is =
+    let none : r ≡ 0 = header_spends_none ts h rest r (subst (λ (n : ℕ). read_header n ts ≡ got h rest r) zero is) in
+    rw is (rw none refl)
+
+-- a fault stays
+pub fault_passes : {A : Type 0} (fault : ReadError) (answer : Answer Token (Unit {0})) (go_on : Unit {0} → Reader Token A) → Passes (Err fault) answer → Gives {A = A} (Err fault) (after answer go_on)
+fault_passes (Syntax n) answer go_on is = ap (λ a. after a go_on) is
+fault_passes Size answer go_on is = ap (λ a. after a go_on) is
+fault_passes Memory answer go_on is = tt
+
+pub fault_gives : {A B : Type 0} (fault : ReadError) (answer : Answer Token A) (go_on : A → Reader Token B) → Gives {A = A} (Err fault) answer → Gives {A = B} (Err fault) (after answer go_on)
+fault_gives (Syntax n) answer go_on is = ap (λ a. after a go_on) is
+fault_gives Size answer go_on is = ap (λ a. after a go_on) is
+fault_gives Memory answer go_on is = tt

@@ -6,15 +6,14 @@
 
 mod declarations;
 mod domains;
+mod equations;
 mod expressions;
-mod laws;
 mod sides;
 mod size;
 mod tree;
 mod words;
 
-pub use laws::programs_are_read;
-
+pub use equations::read_tokens;
 pub use tree::{
     Branch, Chain, Declaration, Equation, Expr, Link, Operator, ProgramText, Relation, Term,
 };

@@ -3,3 +3,4 @@ pub mod Nodes
 pub mod Values
 pub mod Grammar
 pub mod Readers
+pub mod Readings

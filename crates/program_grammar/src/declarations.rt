@@ -26,10 +26,7 @@ fn width_word(cursor: Cursor<'_>) -> Result<Cursor<'_>, ReadError>
     cursor.keyword("long", 0)
 }
 
-fn declaration(
-    alloc: Global,
-    cursor: Cursor<'_>,
-) -> Result<(Declaration, Cursor<'_>), ReadError>
+fn declaration(alloc: Global, cursor: Cursor<'_>) -> Result<(Declaration, Cursor<'_>), ReadError>
     ensures { Gives result (read_declaration cursor.entry.budget cursor.entry.rest.now) }
 {
     let next = width_word(cursor)?;

@@ -25,6 +25,7 @@ use std::alloc::Global;
 /// The limit on nodes and opened parentheses together while an equation is read, and the one on
 /// nodes at its end.
 const NODES_AND_PARENTHESES: u32 = 1024;
+
 const NODES: u32 = 512;
 
 fn equation_body(alloc: Global, cursor: Cursor<'_>) -> Result<(Equation, Cursor<'_>), ReadError>
@@ -87,10 +88,7 @@ fn equations(alloc: Global, cursor: Cursor<'_>) -> Result<(List<Equation>, Curso
     Ok((equations, end.mark(MarkKind::Dot, 0)?))
 }
 
-type Sections = (
-    List<Declaration>,
-    (List<Declaration>, List<Declaration>),
-);
+type Sections = (List<Declaration>, (List<Declaration>, List<Declaration>));
 
 fn sections(alloc: Global, cursor: Cursor<'_>) -> Result<(Sections, Cursor<'_>), ReadError>
     ensures { Gives result (read_sections cursor.entry.budget cursor.entry.rest.now) }
@@ -128,10 +126,7 @@ fn whole(header: Header, equations: List<Equation>) -> ProgramText
     }
 }
 
-fn program(
-    alloc: Global,
-    cursor: Cursor<'_>,
-) -> Result<(ProgramText, Cursor<'_>), ReadError>
+fn program(alloc: Global, cursor: Cursor<'_>) -> Result<(ProgramText, Cursor<'_>), ReadError>
     requires { cursor.budget ≡ 0 }
     ensures { Gives result (read_program cursor.entry.budget cursor.entry.rest.now) }
 {

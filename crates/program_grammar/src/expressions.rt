@@ -32,11 +32,7 @@ fn negation(alloc: Global, body: Expr) -> Result<Expr, AllocError>
 }
 
 /// A case with one branch.
-fn restricted(
-    alloc: Global,
-    disjuncts: List<List<Chain>>,
-    body: Expr,
-) -> Result<Expr, AllocError>
+fn restricted(alloc: Global, disjuncts: List<List<Chain>>, body: Expr) -> Result<Expr, AllocError>
     ensures { IfOk result (λ e. e ≡ value.restricted disjuncts body) }
 {
     let mut branches = Items::new(alloc);
@@ -138,11 +134,7 @@ fn cases(alloc: Global, cursor: Cursor<'_>, depth: u64) -> Result<(Expr, Cursor<
 }
 
 #[cycle(expressions)]
-fn reduction(
-    alloc: Global,
-    cursor: Cursor<'_>,
-    depth: u64,
-) -> Result<(Expr, Cursor<'_>), ReadError>
+fn reduction(alloc: Global, cursor: Cursor<'_>, depth: u64) -> Result<(Expr, Cursor<'_>), ReadError>
     ensures { Gives result (read_reduction (read_expr depth) cursor.entry.budget cursor.entry.rest.now) }
 {
     let next = cursor.keyword("reduce", 1)?;
@@ -275,11 +267,7 @@ fn sum(alloc: Global, cursor: Cursor<'_>, depth: u64) -> Result<(Expr, Cursor<'_
 }
 
 #[cycle(expressions)]
-fn expr_body(
-    alloc: Global,
-    cursor: Cursor<'_>,
-    depth: u64,
-) -> Result<(Expr, Cursor<'_>), ReadError>
+fn expr_body(alloc: Global, cursor: Cursor<'_>, depth: u64) -> Result<(Expr, Cursor<'_>), ReadError>
     ensures { Gives result (read_expr_body (read_expr depth) cursor.entry.budget cursor.entry.rest.now) }
 {
     if !sees(cursor, &[0]) {

@@ -8,12 +8,16 @@ mod declarations;
 mod domains;
 mod equations;
 mod expressions;
+mod fault;
 mod sides;
 mod size;
+mod text;
 mod tree;
 mod words;
 
 pub use equations::read_tokens;
+pub use fault::TextFault;
+pub use text::read_text;
 pub use tree::{
     Branch, Chain, Declaration, Equation, Expr, Link, Operator, ProgramText, Relation, Term,
 };

@@ -16,7 +16,8 @@ members-preserved c =
     let seen : sees class (25 ∷ []) c.members.place.rest.now ≡ true = cc in
     let pushed = c.in_ok-push.ensures.items in
     let turn = onto_turn class (25 ∷ []) put_last read_equation equation_advances c.members.items.items 0 c.members.place.rest.now
-      c.in_ok-next.next c.in_ok-next.end.rest.now c.in_ok-next.end.budget seen c.in_ok-next.ensures in
-    let none : c.in_ok-next.end.budget ≡ 0 = equation_spends_none c.members.place.rest.now c.in_ok-next.next c.in_ok-next.end.rest.now c.in_ok-next.end.budget c.in_ok-next.ensures in
-    (none,
-    rw pushed (sym (turn ∙ ap (λ (b : ℕ). read_onto class (25 ∷ []) put_last read_equation (put_last c.members.items.items c.in_ok-next.next) b c.in_ok-next.end.rest.now) none) ∙ c.members.invariant.1))
+    c.in_ok-next.next c.in_ok-next.end.rest.now c.in_ok-next.end.budget seen c.in_ok-next.ensures in
+    let none : c.in_ok-next.end.budget ≡ 0 = equation_spends_none c.members.place.rest.now c.in_ok-next.next c.in_ok-next.end.rest.now c.in_ok-next.end.budget c.in_ok-next.ensures in (
+      none,
+      rw pushed (sym (turn ∙ ap (λ (b : ℕ). read_onto class (25 ∷ []) put_last read_equation (put_last c.members.items.items c.in_ok-next.next) b c.in_ok-next.end.rest.now) none) ∙ c.members.invariant.1),
+    )

@@ -11,6 +11,8 @@ mod expressions;
 mod fault;
 mod sides;
 mod size;
+#[cfg(test)]
+mod tests;
 mod text;
 mod tree;
 mod words;

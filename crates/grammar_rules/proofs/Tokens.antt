@@ -7,7 +7,7 @@ use Rattle.az_text.specs.declared.token.TokenKind.{TokenKind}
 use Rattle.az_text.specs.declared.token.TokenKind.TheVariants.{Word, Number, Quoted, Mark}
 use Rattle.grammar_rules.specs.Readers.{has}
 use Rattle.grammar_rules.specs.Exactness.{IsWithin}
-use Rattle.grammar_rules.specs.Tokens.{mark_class, class_of, kind_class, kind_mark, mark_of, kind_number, number_of, kind_quoted, quoted_of, kind_name, name_of, word_class, kind_keyword, keyword_of, keyword_class}
+use Rattle.grammar_rules.specs.Tokens.{mark_class, class_of, kind_class, kind_mark, mark_of, kind_number, number_of, kind_quoted, quoted_of, kind_name, name_of, word_class, kind_keyword, keyword_of, keyword_class, chosen, chosen_of, classes}
 
 -- a test in a set of one class
 alone : (a b : ℕ) → a == b ≡ true → has (b ∷ []) a ≡ true
@@ -104,3 +104,15 @@ kind_keyword_within words keyword (Mark kind) a = λ is. absurd (cc)
 
 pub keyword_within : (words : List (List ℕ)) (keyword : List ℕ) → IsWithin (class_of words) (keyword_class words keyword ∷ []) (keyword_of keyword)
 keyword_within words keyword t a is = kind_keyword_within words keyword t.kind a is
+
+-- so does a token of a table
+chosen_has : {A : Type 0} (table : List (ℕ × A)) (c : ℕ) (a : A) → chosen table c ≡ Some a → has (classes table) c ≡ true
+chosen_has [] c a = λ is. absurd (cc)
+chosen_has (row ∷ rows) c a =
+    elim (c == row.0) as (λ b. (if b then Some row.1 else chosen rows c) ≡ Some a → (b || has (classes rows) c) ≡ true) [
+      | true ↦ λ is. refl
+      | false ↦ λ is. chosen_has rows c a is
+    ]
+
+pub chosen_within : {A : Type 0} (words : List (List ℕ)) (table : List (ℕ × A)) → IsWithin (class_of words) (classes table) (chosen_of words table)
+chosen_within words table t a is = chosen_has table (class_of words t) a is

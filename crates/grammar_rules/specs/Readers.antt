@@ -49,8 +49,11 @@ read_mapped f p budget ts = after (p budget ts) (λ a. read_nothing (f a))
 abbrev pub read_then : {T A B : Type 0} → Reader T A → (A → Reader T B) → Reader T B
 read_then p go_on budget ts = after (p budget ts) go_on
 
+abbrev pub read_followed : {T A B C : Type 0} → (A → B → C) → Reader T A → (A → Reader T B) → Reader T C
+read_followed f p q = read_then p (λ a. read_mapped (f a) (q a))
+
 abbrev pub read_sequence : {T A B C : Type 0} → (A → B → C) → Reader T A → Reader T B → Reader T C
-read_sequence f p q = read_then p (λ a. read_mapped (f a) q)
+read_sequence f p q = read_followed f p (λ a. q)
 
 abbrev pub read_choice : {T A : Type 0} → (T → ℕ) → List ℕ → Reader T A → Reader T A → Reader T A
 read_choice class set p q budget ts = if sees class set ts then p budget ts else q budget ts

@@ -37,17 +37,21 @@ pub data TakesMapped {T A B : Type 0} (f : A → B) (p : Rule T A) : List T → 
 abbrev pub mapped_to : {T A B : Type 0} → (A → B) → Rule T A → Rule T B
 mapped_to f p = record { takes = TakesMapped f p; front = p.front }
 
--- A sequence of two parts. Its fronts are those of its first part, and a whole first part followed by
--- a front of the rest.
-pub data TakesSequence {T A B C : Type 0} (f : A → B → C) (p : Rule T A) (q : Rule T B) : List T → ℕ → C → Type 0 where
-  both : {us vs : List T} {v w : ℕ} {a : A} {b : B} → p.takes us v a → q.takes vs w b → TakesSequence f p q (us ++ vs) (v + w) (f a b)
+-- A part, and one that may depend on what the first one has: its value, or what its tokens weigh. The
+-- fronts are those of the first part, and a whole first part followed by a front of the other.
+pub data TakesSequence {T A B C : Type 0} (f : A → B → C) (p : Rule T A) (q : A → Rule T B) : List T → ℕ → C → Type 0 where
+  both : {us vs : List T} {v w : ℕ} {a : A} {b : B} → p.takes us v a → (q a).takes vs w b → TakesSequence f p q (us ++ vs) (v + w) (f a b)
 
-pub data FrontOfSequence {T A B : Type 0} (p : Rule T A) (q : Rule T B) : List T → ℕ → Type 0 where
+pub data FrontOfSequence {T A B : Type 0} (p : Rule T A) (q : A → Rule T B) : List T → ℕ → Type 0 where
   of_first : {us : List T} {v : ℕ} → p.front us v → FrontOfSequence p q us v
-  of_rest : {us vs : List T} {v w : ℕ} {a : A} → p.takes us v a → q.front vs w → FrontOfSequence p q (us ++ vs) (v + w)
+  of_rest : {us vs : List T} {v w : ℕ} {a : A} → p.takes us v a → (q a).front vs w → FrontOfSequence p q (us ++ vs) (v + w)
 
+abbrev pub followed : {T A B C : Type 0} → (A → B → C) → Rule T A → (A → Rule T B) → Rule T C
+followed f p q = record { takes = TakesSequence f p q; front = FrontOfSequence p q }
+
+-- A sequence of two parts.
 abbrev pub sequence : {T A B C : Type 0} → (A → B → C) → Rule T A → Rule T B → Rule T C
-sequence f p q = record { takes = TakesSequence f p q; front = FrontOfSequence p q }
+sequence f p q = followed f p (λ a. q)
 
 -- A choice.
 abbrev pub choice : {T A : Type 0} → Rule T A → Rule T A → Rule T A

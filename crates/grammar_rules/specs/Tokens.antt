@@ -107,3 +107,15 @@ kind_keyword keyword (Mark kind) = None
 
 abbrev pub keyword_of : List ℕ → Token → Option (Unit {0})
 keyword_of keyword t = kind_keyword keyword t.kind
+
+-- a token of a table, by its class
+abbrev pub chosen : {A : Type 0} → List (ℕ × A) → ℕ → Option A
+chosen [] c = None
+chosen (row ∷ rows) c = if c == row.0 then Some row.1 else chosen rows c
+
+abbrev pub chosen_of : {A : Type 0} → List (List ℕ) → List (ℕ × A) → Token → Option A
+chosen_of words table t = chosen table (class_of words t)
+
+abbrev pub classes : {A : Type 0} → List (ℕ × A) → List ℕ
+classes [] = []
+classes (row ∷ rows) = row.0 ∷ classes rows

@@ -9,6 +9,7 @@ mod cursor;
 mod ending;
 mod fault;
 mod laws;
+mod look_ahead;
 mod sums;
 #[cfg(test)]
 mod tests;

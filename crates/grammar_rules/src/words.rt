@@ -12,7 +12,7 @@ use az_text::{Token, TokenKind};
 const NAME_CLASS: u32 = 25;
 
 /// The number of a word, where the reserved words are numbered from `number` on.
-fn class_from(reserved: &[&str], number: u32, word: &str) -> u32
+pub(crate) fn class_from(reserved: &[&str], number: u32, word: &str) -> u32
     requires { number + length reserved.now < 2 ^ 32 }
     ensures { result ≡ word_class (map (λ one. one.now) reserved.now) number word.now }
 {

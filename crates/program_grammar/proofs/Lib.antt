@@ -1,0 +1,5 @@
+pub mod NodeLemmas
+pub mod SideRules
+pub mod DomainRules
+pub mod ExprRules
+pub mod ProgramRules

@@ -1,0 +1,6 @@
+pub mod Tidying
+pub mod Combining
+pub mod Choosing
+pub mod Stages
+pub mod Rows
+pub mod Answers

@@ -1,0 +1,32 @@
+//! Single stages, for callers that choose the columns themselves.
+
+ghost use Rattle.std.specs.Prelude.{◌≡◌, All, map};
+ghost use Rattle.farkas_find.specs.Rows.{affine_of, HasWideRow, HaveOneWidth};
+ghost use Rattle.farkas_find.specs.Answers.{TidyAnswers};
+
+use crate::stage::{AfterTidying, tidied};
+use crate::wide::{numbered, unnumbered};
+use crate::{FindFault, Left, WideRow};
+use az_lin::{Limit, List};
+use std::alloc::Global;
+
+/// The most rows that a stage may have before it is tidied.
+const MOST_ROWS: usize = 20_000;
+
+/// Rounds the rows and leaves out those that say nothing more than another row.
+pub fn tidy(alloc: Global, rows: List<WideRow>) -> Result<Left, FindFault>
+    requires widths { HaveOneWidth rows }
+    requires range { All HasWideRow rows }
+    ensures { TidyAnswers (map affine_of rows) result }
+{
+    let count = rows.len();
+    if count > MOST_ROWS {
+        return Err(FindFault::Limit(Limit::Rows));
+    }
+    let given = numbered(alloc, rows.as_slice())?;
+    let mut steps = Vec::new(alloc);
+    match tidied(alloc, given, count as u32, &mut steps)? {
+        AfterTidying::Refuted(_) => Ok(Left::Contradiction),
+        AfterTidying::Kept(left) => Ok(Left::Rows(unnumbered(alloc, left.as_slice())?)),
+    }
+}

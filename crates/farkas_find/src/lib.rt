@@ -1,0 +1,25 @@
+//! The elimination of columns from a system of rows, exact and over whole numbers of at most 128 bits.
+//!
+//! `specs/Stages.antt` says what the stages of the elimination are.
+#![tactic(auto)]
+
+mod calls;
+mod choice;
+mod choose;
+mod combine;
+mod contradiction;
+mod duplicates;
+mod fault;
+mod left;
+mod made;
+mod negative;
+mod numbered;
+mod pairs;
+mod rounding;
+mod stage;
+mod wide;
+
+pub use calls::tidy;
+pub use fault::FindFault;
+pub use left::Left;
+pub use wide::WideRow;

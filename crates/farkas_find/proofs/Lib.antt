@@ -4,3 +4,6 @@ pub mod Rounded
 pub mod Places
 pub mod Numbering
 pub mod Firsts
+pub mod Pruning
+pub mod Marks
+pub mod Renumbering

@@ -4,3 +4,4 @@ pub mod Choosing
 pub mod Stages
 pub mod Rows
 pub mod Answers
+pub mod Needed

@@ -15,6 +15,7 @@ mod made;
 mod negative;
 mod numbered;
 mod pairs;
+mod prune;
 mod rounding;
 mod stage;
 mod wide;

@@ -7,3 +7,4 @@ pub mod Firsts
 pub mod Pruning
 pub mod Marks
 pub mod Renumbering
+pub mod Logged

@@ -129,10 +129,10 @@ row_of-renumbered given flags old new step tracks named valid =
     row_of-moved old new step (new_number given flags step.i) (new_number given flags step.j)
     (tracks.same step.i valid.left_below named.left) (tracks.same step.j valid.right_below named.right)
 
-row_at-push : (rows : List Affine) (row : Affine) (number : ℕ) → number < length rows → row_at (rows ++ row ∷ []) number ≡ row_at rows number
+pub row_at-push : (rows : List Affine) (row : Affine) (number : ℕ) → number < length rows → row_at (rows ++ row ∷ []) number ≡ row_at rows number
 row_at-push rows row number h = let empty : Affine = record { coefs = []; konst = pos 0 } in get_or-append rows (row ∷ []) empty number h
 
-row_at-last : (rows : List Affine) (row : Affine) (number : ℕ) → length rows ≡ number → row_at (rows ++ row ∷ []) number ≡ row
+pub row_at-last : (rows : List Affine) (row : Affine) (number : ℕ) → length rows ≡ number → row_at (rows ++ row ∷ []) number ≡ row
 row_at-last rows row number h = let empty : Affine = record { coefs = []; konst = pos 0 } in get_or_push rows row empty number h
 
 -- one more row, that stays
@@ -312,7 +312,7 @@ names_staying target given steps before k d inside flag =
       right = number_stays target given steps k d (get_or steps k d).j named.right inside flag (λ n e. right_named n (get_or steps k d) e);
     }
 
-length-rows_after : (rows : List Affine) (steps : List Step) → length (rows_after rows steps) ≡ length rows + length steps
+pub length-rows_after : (rows : List Affine) (steps : List Step) → length (rows_after rows steps) ≡ length rows + length steps
 length-rows_after rows [] = omega arith
 length-rows_after rows (step ∷ steps) = length-rows_after (rows ++ row_of rows step ∷ []) steps ∙ omega (arith, length-append rows (row_of rows step ∷ []))
 
@@ -352,26 +352,26 @@ needed_steps-derive rows target steps past inside good contradiction =
 once_nothing : (x : ℤ) → scaled_sum (pos 1) x (pos 0) x ≡ x
 once_nothing x = omega (arith, ints)
 
-once_nothings : (xs : List ℤ) → scaled_sums (pos 1) xs (pos 0) xs ≡ xs
+pub once_nothings : (xs : List ℤ) → scaled_sums (pos 1) xs (pos 0) xs ≡ xs
 once_nothings [] = refl
 once_nothings (x ∷ xs) = cc (once_nothing x, once_nothings xs)
 
-wide_once : (x : ℤ) → IsWide x → IsWideSum (pos 1) x (pos 0) x
+pub wide_once : (x : ℤ) → IsWide x → IsWideSum (pos 1) x (pos 0) x
 wide_once x wide =
     let one : pos 1 *ℤ x ≡ x = omega (arith, ints) in
     let none : pos 0 *ℤ x ≡ pos 0 = omega (arith, ints) in
     let zero_wide : IsWide (pos 0) = omega arith in
     record { left = rw one wide; right = rw none zero_wide; total = rw (once_nothing x) wide }
 
-wide_onces : (xs : List ℤ) → All IsWide xs → AllZip (λ x y. IsWideSum (pos 1) x (pos 0) y) xs xs
+pub wide_onces : (xs : List ℤ) → All IsWide xs → AllZip (λ x y. IsWideSum (pos 1) x (pos 0) y) xs xs
 wide_onces [] wide = tt
 wide_onces (x ∷ xs) wide = (wide_once x (All-head IsWide x xs wide), wide_onces xs (All-tail IsWide x xs wide))
 
-one_divides : (zs : List ℤ) → DividesEach 1 zs
+pub one_divides : (zs : List ℤ) → DividesEach 1 zs
 one_divides [] = All-nil (λ z. 1 ∣ unsigned_abs z)
 one_divides (z ∷ zs) = All-cons (λ y. 1 ∣ unsigned_abs y) z zs (one-dvd (unsigned_abs z)) (one_divides zs)
 
-row_once : (row : Affine) → combination (pos 1) row (pos 0) row ≡ row
+pub row_once : (row : Affine) → combination (pos 1) row (pos 0) row ≡ row
 row_once row = ap₂ (λ (coefs : List ℤ) (konst : ℤ). let made : Affine = record { coefs = coefs; konst = konst } in made) (once_nothings row.coefs) (once_nothing row.konst)
 
 row_of-itself : (rows : List Affine) (number : ℕ) → row_of rows (itself number) ≡ row_at rows number
@@ -400,7 +400,7 @@ itself-derives rows number inside wide contradiction =
       ends = record { some = omega arith; last = subst IsContradiction (sym same) contradiction };
     }
 
-row_at-earlier : (rows : List Affine) (steps : List Step) (number : ℕ) → number < length rows → row_at (rows_after rows steps) number ≡ row_at rows number
+pub row_at-earlier : (rows : List Affine) (steps : List Step) (number : ℕ) → number < length rows → row_at (rows_after rows steps) number ≡ row_at rows number
 row_at-earlier rows [] number h = refl
 row_at-earlier rows (step ∷ steps) number h =
     row_at-earlier (rows ++ row_of rows step ∷ []) steps number (omega (arith, length-append rows (row_of rows step ∷ []))) ∙ row_at-push rows (row_of rows step) number h

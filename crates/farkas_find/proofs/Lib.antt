@@ -4,3 +4,11 @@ pub mod Rounded
 pub mod Places
 pub mod Numbering
 pub mod Firsts
+pub mod Paired
+pub mod Parted
+pub mod Keeping
+pub mod Widths
+pub mod Chosen
+pub mod Gone
+pub mod Staged
+pub mod Sound

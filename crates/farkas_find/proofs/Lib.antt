@@ -8,3 +8,11 @@ pub mod Pruning
 pub mod Marks
 pub mod Renumbering
 pub mod Logged
+pub mod Paired
+pub mod Parted
+pub mod Keeping
+pub mod Widths
+pub mod Chosen
+pub mod Gone
+pub mod Staged
+pub mod Sound

@@ -42,3 +42,8 @@ pub step_more : (column i : ℕ) (rows : List Numbered) (pairs : List Pair) (pai
     → steps ++ step ∷ [] ≡ old ++ map (step_at column rows) (take (i + 1) pairs)
 step_more column i rows pairs pair step old steps more is so_far =
     rw (more, map-append (step_at column rows) (take i pairs) (pair ∷ []), so_far, is) (append_assoc old (map (step_at column rows) (take i pairs)) (step_at column rows pair ∷ []))
+
+pub length-numbered_from : (next : ℕ) (rows : List Affine) → length (numbered_from next rows) ≡ length rows
+unfolding numbered_from
+length-numbered_from next [] = refl
+length-numbered_from next (row ∷ rows) = ap suc (length-numbered_from (next + 1) rows)

@@ -1,75 +1,132 @@
--- The stages of the elimination, over unbounded whole numbers. A stage has rows, and the number that its next new row
--- takes. It is tidied. Then a column that may go is chosen, and the next stage has the rows without the column, and then
--- the rows that pairs of the others give.
-use Rattle.std.specs.Prelude.{◌≡◌, ℕ, zero, suc, ◌+◌, ◌<◌, ◌≤◌, not, List, ◌++◌, length, map, filter, All, Option, Some, None, is_some, cond}
-use Rattle.std.specs.Option.{option_and_then}
+-- The stages of the elimination, over unbounded whole numbers. A stage is tidied, and a column that may go is chosen.
+-- The next stage has the rows without the column, and then the rows that pairs of the others give.
+use Rattle.std.specs.Prelude.{◌≡◌, ℕ, zero, suc, ◌+◌, ◌<◌, ◌≤◌, not, List, [], ◌∷◌, ◌++◌, length, map, filter, All, Option, Some, None, ◌⊎◌}
 use Rattle.az_lin.specs.Affine.{Affine}
-use Rattle.farkas_find.specs.Tidying.{coef_at, is_zero, rounded_rows, rounding_steps, contradiction_in, tidied}
-use Rattle.farkas_find.specs.Combining.{all_pairs, pairs_with, combined_at, FitsAt, numbered_from}
+use Rattle.az_lin.specs.declared.step.Step.{Step}
+use Rattle.farkas_find.specs.Tidying.{row_at, coef_at, is_zero, rounded_rows, rounding_steps, contradiction_in, tidied}
+use Rattle.farkas_find.specs.Combining.{all_pairs, pairs_with, combined_at, step_at, FitsAt, numbered_from}
 use Rattle.farkas_find.specs.Choosing.{choice_of}
 use Rattle.farkas_find.specs.declared.numbered.Numbered.{Numbered}
 use Rattle.farkas_find.specs.declared.choice.Pair.{Pair}
 use Rattle.farkas_find.specs.declared.choice.Choice.{Choice}
+use Rattle.farkas_find.specs.declared.trail.Stage.{Stage}
+use Rattle.farkas_find.specs.declared.trail.Ended.{Ended}
+use Rattle.farkas_find.specs.declared.trail.Ended.TheVariants.{Refuted, Left}
+use Rattle.farkas_find.specs.declared.trail.Finished.{Finished}
 
-pub record Stage : Type 0 where
-  pub rows : List Numbered
-  pub next : ℕ
+-- the given rows, numbered from 0
+abbrev pub given_rows : List Affine → List Numbered
+given_rows rows = numbered_from 0 rows
 
--- the number that the first new row after tidying takes
-abbrev pub after_tidying : Stage → ℕ
-after_tidying stage = stage.next + length (rounding_steps stage.rows)
+abbrev pub first_stage : List Numbered → Stage
+first_stage given = record { rows = given; next = length given; steps = []; trail = [] }
 
+-- how many rows a stage may have before it is tidied
+abbrev pub HasFew : List Numbered → Type 0
+HasFew rows = length rows ≤ 20000
+
+abbrev pub HasMany : List Numbered → Type 0
+HasMany rows = 20000 < length rows
+
+-- a stage after it is tidied
 abbrev pub tidied_rows : Stage → List Numbered
 tidied_rows stage = tidied stage.next stage.rows
 
-abbrev pub pairs_for : ℕ → Option Pair → List Numbered → List Pair
-pairs_for column None rows = all_pairs column rows
-pairs_for column (Some chosen) rows = pairs_with column chosen rows
+abbrev pub tidied_stage : Stage → Stage
+tidied_stage stage = record {
+  rows = tidied_rows stage;
+  next = stage.next + length (rounding_steps stage.rows);
+  steps = stage.steps ++ rounding_steps stage.rows;
+  trail = stage.trail;
+}
 
--- the next stage, where a column goes from tidied rows
+-- what a choice makes of tidied rows: the rows without the column, those with it, and the pairs of these
 unfoldable pub rows_without : ℕ → List Numbered → List Numbered
 rows_without column rows = filter (λ it. is_zero (coef_at column it)) rows
 
-unfoldable pub stage_after : Choice → ℕ → List Numbered → Stage
-stage_after choice next rows = record {
-  rows = rows_without choice.column rows ++ numbered_from next (map (combined_at choice.column rows) (pairs_for choice.column choice.pair rows));
-  next = next + length (pairs_for choice.column choice.pair rows);
+unfoldable pub rows_with : ℕ → List Numbered → List Numbered
+rows_with column rows = filter (λ it. not (is_zero (coef_at column it))) rows
+
+abbrev pub pairs_by : ℕ → Option Pair → List Numbered → List Pair
+pairs_by column None rows = all_pairs column rows
+pairs_by column (Some chosen) rows = pairs_with column chosen rows
+
+abbrev pub pairs_for : Choice → List Numbered → List Pair
+pairs_for choice rows = pairs_by choice.column choice.pair rows
+
+unfoldable pub next_rows : Choice → ℕ → List Numbered → List Numbered
+next_rows choice next rows =
+    rows_without choice.column rows ++ numbered_from next (map (combined_at choice.column rows) (pairs_for choice rows))
+
+-- every number on the way to the next rows is in range
+abbrev pub StaysWide : Choice → List Numbered → Type 0
+StaysWide choice rows = All (FitsAt choice.column rows) (pairs_for choice rows)
+
+-- the stage after a tidied one
+unfoldable pub without_column : Choice → Stage → Stage
+without_column choice stage = record {
+  rows = next_rows choice stage.next stage.rows;
+  next = stage.next + length (pairs_for choice stage.rows);
+  steps = stage.steps ++ map (step_at choice.column stage.rows) (pairs_for choice stage.rows);
+  trail = stage.trail ++ record { column = choice.column; rows = rows_with choice.column stage.rows } ∷ [];
 }
 
--- every number on the way to the next stage is in range
-unfoldable pub StaysWide : Choice → List Numbered → Type 0
-StaysWide choice rows = All (FitsAt choice.column rows) (pairs_for choice.column choice.pair rows)
+abbrev pub stage_after : Choice → Stage → Stage
+stage_after choice stage = without_column choice (tidied_stage stage)
 
--- the choice of a stage among the columns that may go: none where a row refutes the system or no row has such a column
-unfoldable pub choice_at : List ℕ → Stage → Option Choice
-choice_at columns stage =
-    cond (is_some (contradiction_in stage.next stage.rows)) None (choice_of columns (tidied_rows stage))
+abbrev pub rows_after : Choice → Stage → List Numbered
+rows_after choice stage = next_rows choice (tidied_stage stage).next (tidied_rows stage)
 
--- stage s, if the elimination comes so far
-unfoldable pub stage_number : List ℕ → List Affine → ℕ → Option Stage
-stage_number columns rows zero = Some (record { rows = numbered_from 0 rows; next = length rows })
-stage_number columns rows (suc s) =
-    option_and_then (λ stage. option_and_then (λ choice. Some (stage_after choice (after_tidying stage) (tidied_rows stage))) (choice_at columns stage))
-    (stage_number columns rows s)
+-- no row refutes the system, and this is the choice among the columns that may go
+pub record Chooses (columns : List ℕ) (stage : Stage) (choice : Choice) : Type 0 where
+  pub unrefuted : contradiction_in stage.next stage.rows ≡ None
+  pub chosen : choice_of columns (tidied_rows stage) ≡ Some choice
 
--- a number first leaves the range in stage s, and no stage up to the next has more rows than the limit
-pub record LeavesRangeAt (limit : ℕ) (columns : List ℕ) (rows : List Affine) (s : ℕ) : Type 0 where
+-- the next stage, where it is reached in range and has no more rows than a stage may have
+pub record Follows (columns : List ℕ) (earlier stage : Stage) : Type 0 where
+  pub choice : Choice
+  pub chooses : Chooses columns earlier choice
+  pub wide : StaysWide choice (tidied_rows earlier)
+  pub few : HasFew stage.rows
+  pub next : stage ≡ stage_after choice earlier
+
+-- stage s, reached in range from the given rows
+abbrev pub IsReached : List ℕ → List Numbered → ℕ → Stage → Type 0
+IsReached columns given zero stage = HasFew stage.rows × (stage ≡ first_stage given)
+IsReached columns given (suc s) stage = (earlier : Stage) × IsReached columns given s earlier × Follows columns earlier stage
+
+-- a number first leaves the range in stage s: on the way to the next stage's rows, which are few enough to be made
+pub record LeavesRangeAt (columns : List ℕ) (given : List Numbered) (s : ℕ) : Type 0 where
   pub stage : Stage
   pub choice : Choice
-  pub reached : stage_number columns rows s ≡ Some stage
-  pub chosen : choice_at columns stage ≡ Some choice
+  pub reached : IsReached columns given s stage
+  pub chooses : Chooses columns stage choice
+  pub few : HasFew (rows_after choice stage)
   pub leaves : ¬ StaysWide choice (tidied_rows stage)
-  pub few : length (stage_after choice (after_tidying stage) (tidied_rows stage)).rows ≤ limit
-  pub before : (t : ℕ) (earlier : Stage) (then : Choice) → t < s → stage_number columns rows t ≡ Some earlier → choice_at columns earlier ≡ Some then
-      → StaysWide then (tidied_rows earlier)
-  pub counts : (t : ℕ) (earlier : Stage) → t ≤ s → stage_number columns rows t ≡ Some earlier → length earlier.rows ≤ limit
 
--- stage s is the first that has more rows than the limit, and no number left the range on the way to its rows but in
--- those rows themselves
-pub record PassesLimitAt (limit : ℕ) (columns : List ℕ) (rows : List Affine) (s : ℕ) : Type 0 where
+-- the stage after stage s is the first that has too many rows
+pub record GrowsAt (columns : List ℕ) (given : List Numbered) (s : ℕ) : Type 0 where
   pub stage : Stage
-  pub reached : stage_number columns rows s ≡ Some stage
-  pub many : limit < length stage.rows
-  pub before : (t : ℕ) (earlier : Stage) (then : Choice) → suc t < s → stage_number columns rows t ≡ Some earlier → choice_at columns earlier ≡ Some then
-      → StaysWide then (tidied_rows earlier)
-  pub counts : (t : ℕ) (earlier : Stage) → t < s → stage_number columns rows t ≡ Some earlier → length earlier.rows ≤ limit
+  pub choice : Choice
+  pub reached : IsReached columns given s stage
+  pub chooses : Chooses columns stage choice
+  pub many : HasMany (rows_after choice stage)
+
+abbrev pub PassesLimit : List ℕ → List Numbered → Type 0
+PassesLimit columns given = HasMany given ⊎ ((s : ℕ) × GrowsAt columns given s)
+
+-- how the last stage ends: a row refutes the system, or no row that tidying leaves has a column that may go
+abbrev pub EndsBy : List ℕ → Stage → Ended → Type 0
+EndsBy columns stage (Refuted number) =
+    (place : ℕ) × (contradiction_in stage.next stage.rows ≡ Some place)
+      × (number ≡ (row_at (rounded_rows stage.next stage.rows) place).number)
+EndsBy columns stage (Left left) =
+    (contradiction_in stage.next stage.rows ≡ None) × (choice_of columns (tidied_rows stage) ≡ None) × (left ≡ tidied_rows stage)
+
+pub record Finishes (columns : List ℕ) (given : List Numbered) (finished : Finished) : Type 0 where
+  pub number : ℕ
+  pub stage : Stage
+  pub reached : IsReached columns given number stage
+  pub ends : EndsBy columns stage finished.ended
+  pub steps : finished.steps ≡ stage.steps ++ rounding_steps stage.rows
+  pub trail : finished.trail ≡ stage.trail

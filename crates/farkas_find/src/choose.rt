@@ -8,6 +8,7 @@ ghost use Rattle.farkas_find.specs.Combining.{HaveWidth, has_sign};
 ghost use Rattle.farkas_find.specs.Choosing.{negative_place, oriented, pair_at, pair_in, choice_by_pair, count_with, is_free, free_columns, column_by_count, choice_of, better_of, count_of_best};
 
 use crate::choice::{Choice, Pair};
+use crate::counting::{count_with, pairs_of_counts};
 use crate::negative::negative_places;
 use crate::numbered::{Numbered, at};
 use std::alloc::{AllocError, Global};
@@ -111,18 +112,6 @@ fn choice_by_pair(
     None
 }
 
-/// How many rows are positive in the column, or else negative.
-fn count_with(positive: bool, column: usize, rows: &[Numbered], width: usize) -> usize
-    requires inside { column < width }
-    requires widths { HaveWidth width rows.now }
-    ensures value { result ≡ count_with positive column rows.now }
-    ensures bound { result ≤ length rows.now }
-{
-    rows.iter()
-        .filter(|it| it.has_sign(column, positive))
-        .count()
-}
-
 /// The best column so far, and for how many pairs it stands.
 #[derive(Debug, Clone, Copy)]
 struct Best {
@@ -152,14 +141,6 @@ fn better_of(best: Best, column: usize, rows: &[Numbered], width: usize) -> Best
             pairs,
         },
     }
-}
-
-fn pairs_of_counts(pluses: usize, minuses: usize) -> usize
-    requires pluses { pluses ≤ 20000 }
-    requires minuses { minuses ≤ 20000 }
-    ensures { result ≡ pluses * minuses }
-{
-    pluses * minuses
 }
 
 /// The free column for which the fewest pairs are combined, the lowest on ties.

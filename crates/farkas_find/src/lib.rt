@@ -3,22 +3,29 @@
 //! `specs/Stages.antt` says what the stages of the elimination are.
 #![tactic(auto)]
 
+mod advance;
 mod calls;
 mod choice;
 mod choose;
 mod combine;
 mod contradiction;
+mod counting;
 mod duplicates;
 mod fault;
 mod left;
 mod made;
 mod negative;
+mod next;
 mod numbered;
 mod pairs;
+mod parting;
 mod prune;
 mod rounding;
+mod run;
 mod stage;
+mod trail;
 mod wide;
+mod within;
 
 pub use calls::tidy;
 pub use fault::FindFault;

@@ -3,12 +3,8 @@ use Rattle.std.proofs.lemmas.List.{length-map}
 use Rattle.az_lin.specs.Affine.{Affine}
 use Rattle.farkas_find.specs.Combining.{numbered_from}
 use Rattle.farkas_find.specs.Rows.{affine_of}
+use Rattle.farkas_find.proofs.Numbering.{length-numbered_from}
 use Rattle.farkas_find.proofs.calls.tidy.Goals as goal
-
-length-numbered_from : (next : ℕ) (rows : List Affine) → length (numbered_from next rows) ≡ length rows
-unfolding numbered_from
-length-numbered_from next [] = refl
-length-numbered_from next (row ∷ rows) = ap suc (length-numbered_from (next + 1) rows)
 
 pub tidied-requires : goal.tidied-requires
 tidied-requires c =

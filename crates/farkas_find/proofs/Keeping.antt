@@ -38,7 +38,7 @@ Every-rounded_rows Q keeps next (it ∷ rest) all =
       [ true ↦ All-cons P new (rounded_rows (next + 1) rest) head (Every-rounded_rows Q keeps (next + 1) rest others)
       | false ↦ All-cons P it (rounded_rows next rest) (All-head P it rest all) (Every-rounded_rows Q keeps next rest others) ]
 
-All-picked : {X : Type 0} (P : X → Type 0) (bs : List Bool) (xs : List X) → All P xs → All P (items_where_true bs xs)
+pub All-picked : {X : Type 0} (P : X → Type 0) (bs : List Bool) (xs : List X) → All P xs → All P (items_where_true bs xs)
 All-picked P [] xs all = All-nil P
 All-picked P (b ∷ bs) [] all = All-nil P
 All-picked P (true ∷ bs) (x ∷ xs) all = All-cons P x (items_where_true bs xs) (All-head P x xs all) (All-picked P bs xs (All-tail P x xs all))

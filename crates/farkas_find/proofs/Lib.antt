@@ -16,3 +16,5 @@ pub mod Chosen
 pub mod Gone
 pub mod Staged
 pub mod Sound
+pub mod Refuting
+pub mod Small

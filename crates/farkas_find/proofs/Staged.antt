@@ -116,7 +116,7 @@ dead_of_gone : (column : ℕ) (rows : List Numbered) → IsGone column rows → 
 dead_of_gone column rows gone =
     (elim (is_live column rows) as (λ b. is_live column rows ≡ b → b ≡ false) [ true ↦ λ live. absurd (not_gone column rows live gone) | false ↦ λ dead. refl ]) refl
 
-live_unless_gone : (column : ℕ) (rows : List Numbered) → ¬ IsGone column rows → is_live column rows ≡ true
+pub live_unless_gone : (column : ℕ) (rows : List Numbered) → ¬ IsGone column rows → is_live column rows ≡ true
 live_unless_gone column rows there =
     (elim (is_live column rows) as (λ b. is_live column rows ≡ b → b ≡ true) [ true ↦ λ live. refl | false ↦ λ dead. absurd (there (gone_of_dead column rows dead)) ]) refl
 

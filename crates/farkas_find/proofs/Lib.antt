@@ -12,3 +12,4 @@ pub mod Chosen
 pub mod Gone
 pub mod Staged
 pub mod Sound
+pub mod Given

@@ -2,6 +2,6 @@ pub mod Tidying
 pub mod Combining
 pub mod Choosing
 pub mod Stages
-pub mod Nexts
 pub mod Rows
 pub mod Answers
+pub mod Nexts

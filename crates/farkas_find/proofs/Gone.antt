@@ -55,7 +55,7 @@ lacks-combined column other plus minus same p m =
     let a : ℤ = plus_weight other plus minus in
     let b : ℤ = minus_weight other plus minus in
     kept_by_rounded (Lacks column) (lacks-kept column) (sum_without other plus minus)
-      (scaled_sums-at a plus.row.coefs b minus.row.coefs same column ∙ none_of_sum a (coef_at column plus) b (coef_at column minus) p m)
+    (scaled_sums-at a plus.row.coefs b minus.row.coefs same column ∙ none_of_sum a (coef_at column plus) b (coef_at column minus) p m)
 
 -- the weights cancel in the column
 regroup : (a b h : ℕ) → a * (h * b) ≡ b * (h * a)
@@ -86,20 +86,20 @@ cancelled column plus minus same above below =
     let positive : 0 < h = gcd_of-positive (unsigned_abs p) (unsigned_abs q) (magnitude_positive p above) in
     let equal : (unsigned_abs q / h) * unsigned_abs p ≡ (unsigned_abs p / h) * unsigned_abs q = crossed (unsigned_abs p) (unsigned_abs q) h positive divides.0 divides.1 in
     kept_by_rounded (Lacks column) (lacks-kept column) (sum_without column plus minus)
-      (scaled_sums-at (plus_weight column plus minus) plus.row.coefs (minus_weight column plus minus) minus.row.coefs same column
-        ∙ cancels p q (unsigned_abs p / h) (unsigned_abs q / h) above below equal)
+    (scaled_sums-at (plus_weight column plus minus) plus.row.coefs (minus_weight column plus minus) minus.row.coefs same column
+    ∙ cancels p q (unsigned_abs p / h) (unsigned_abs q / h) above below equal)
 
 pub IsGone-next_rows : (width column : ℕ) (choice : Choice) (next : ℕ) (rows : List Numbered) → HaveWidth width rows → All (IsPair choice.column rows) (pairs_for choice rows)
     → IsGone column rows → IsGone column (next_rows choice next rows)
 IsGone-next_rows width column choice next rows widths pairs gone =
     let nothing : Numbered = record { row = record { coefs = []; konst = pos 0 }; number = 0 } in
     Every-next_rows (Lacks column) choice next rows (Every-without (Lacks column) choice.column rows gone)
-      (λ k d inside.
-        let pair : Pair = get_or (pairs_for choice rows) k d in
-        let is : IsPair choice.column rows pair = pairs k d inside in
-        lacks-combined column choice.column (row_at rows pair.plus) (row_at rows pair.minus)
-          (widths pair.plus nothing is.plus_inside ∙ sym (widths pair.minus nothing is.minus_inside))
-          (gone pair.plus nothing is.plus_inside) (gone pair.minus nothing is.minus_inside))
+    (λ k d inside.
+    let pair : Pair = get_or (pairs_for choice rows) k d in
+    let is : IsPair choice.column rows pair = pairs k d inside in
+    lacks-combined column choice.column (row_at rows pair.plus) (row_at rows pair.minus)
+    (widths pair.plus nothing is.plus_inside ∙ sym (widths pair.minus nothing is.minus_inside))
+    (gone pair.plus nothing is.plus_inside) (gone pair.minus nothing is.minus_inside))
 
 gone_without : (column : ℕ) (rows : List Numbered) → IsGone column (rows_without column rows)
 unfolding rows_without
@@ -111,8 +111,8 @@ pub IsGone-chosen : (width : ℕ) (choice : Choice) (next : ℕ) (rows : List Nu
 IsGone-chosen width choice next rows widths pairs =
     let nothing : Numbered = record { row = record { coefs = []; konst = pos 0 }; number = 0 } in
     Every-next_rows (Lacks choice.column) choice next rows (gone_without choice.column rows)
-      (λ k d inside.
-        let pair : Pair = get_or (pairs_for choice rows) k d in
-        let is : IsPair choice.column rows pair = pairs k d inside in
-        cancelled choice.column (row_at rows pair.plus) (row_at rows pair.minus)
-          (widths pair.plus nothing is.plus_inside ∙ sym (widths pair.minus nothing is.minus_inside)) is.positive is.negative)
+    (λ k d inside.
+    let pair : Pair = get_or (pairs_for choice rows) k d in
+    let is : IsPair choice.column rows pair = pairs k d inside in
+    cancelled choice.column (row_at rows pair.plus) (row_at rows pair.minus)
+    (widths pair.plus nothing is.plus_inside ∙ sym (widths pair.minus nothing is.minus_inside)) is.positive is.negative)

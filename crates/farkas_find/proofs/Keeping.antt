@@ -34,9 +34,10 @@ Every-rounded_rows Q keeps next (it ∷ rest) all =
     let new : Numbered = record { row = rounded it.row; number = next } in
     let head : P new = kept_by_rounded Q keeps it.row (All-head P it rest all) in
     let others : All P rest = All-tail P it rest all in
-    elim (is_rounded it.row) as (λ b. All P (cond b (new ∷ rounded_rows (next + 1) rest) (it ∷ rounded_rows next rest)))
-      [ true ↦ All-cons P new (rounded_rows (next + 1) rest) head (Every-rounded_rows Q keeps (next + 1) rest others)
-      | false ↦ All-cons P it (rounded_rows next rest) (All-head P it rest all) (Every-rounded_rows Q keeps next rest others) ]
+    elim (is_rounded it.row) as (λ b. All P (cond b (new ∷ rounded_rows (next + 1) rest) (it ∷ rounded_rows next rest))) [
+      | true ↦ All-cons P new (rounded_rows (next + 1) rest) head (Every-rounded_rows Q keeps (next + 1) rest others)
+      | false ↦ All-cons P it (rounded_rows next rest) (All-head P it rest all) (Every-rounded_rows Q keeps next rest others)
+    ]
 
 pub All-picked : {X : Type 0} (P : X → Type 0) (bs : List Bool) (xs : List X) → All P xs → All P (items_where_true bs xs)
 All-picked P [] xs all = All-nil P
@@ -48,14 +49,14 @@ pub Every-tidied : (Q : Affine → Type 0) → KeptByRounding Q → (next : ℕ)
 unfolding strongest
 Every-tidied Q keeps next rows all =
     All-picked (λ it. Q it.row) (map (stays (rounded_rows next rows)) (range_with_len 0 (length (rounded_rows next rows)))) (rounded_rows next rows)
-      (Every-rounded_rows Q keeps next rows all)
+    (Every-rounded_rows Q keeps next rows all)
 
 Every-numbered_from : (Q : Affine → Type 0) (next : ℕ) (rows : List Affine) → All Q rows → Every Q (numbered_from next rows)
 unfolding numbered_from
 Every-numbered_from Q next [] all = All-nil (λ it. Q it.row)
 Every-numbered_from Q next (row ∷ rows) all =
     All-cons (λ it. Q it.row) (record { row = row; number = next }) (numbered_from (next + 1) rows) (All-head Q row rows all)
-      (Every-numbered_from Q (next + 1) rows (All-tail Q row rows all))
+    (Every-numbered_from Q (next + 1) rows (All-tail Q row rows all))
 
 pub Every-given : (Q : Affine → Type 0) (rows : List Affine) → All Q rows → Every Q (numbered_from 0 rows)
 Every-given Q rows all = Every-numbered_from Q 0 rows all
@@ -65,7 +66,7 @@ pub Every-next_rows : (Q : Affine → Type 0) (choice : Choice) (next : ℕ) (ro
 unfolding next_rows
 Every-next_rows Q choice next rows all pairs =
     All-append (λ it. Q it.row) (rows_without choice.column rows) (numbered_from next (map (combined_at choice.column rows) (pairs_for choice rows))) all
-      (Every-numbered_from Q next (map (combined_at choice.column rows) (pairs_for choice rows)) (All-map Q (combined_at choice.column rows) (pairs_for choice rows) pairs))
+    (Every-numbered_from Q next (map (combined_at choice.column rows) (pairs_for choice rows)) (All-map Q (combined_at choice.column rows) (pairs_for choice rows) pairs))
 
 pub Every-without : (Q : Affine → Type 0) (column : ℕ) (rows : List Numbered) → Every Q rows → Every Q (rows_without column rows)
 unfolding rows_without
@@ -83,7 +84,7 @@ unfolding rounded_rows
 length-rounded_rows next [] = refl
 length-rounded_rows next (it ∷ rest) =
     elim (is_rounded it.row) as (λ b. length (cond b (record { row = rounded it.row; number = next } ∷ rounded_rows (next + 1) rest) (it ∷ rounded_rows next rest)) ≡ suc (length rest))
-      [ true ↦ ap suc (length-rounded_rows (next + 1) rest) | false ↦ ap suc (length-rounded_rows next rest) ]
+    [ true ↦ ap suc (length-rounded_rows (next + 1) rest) | false ↦ ap suc (length-rounded_rows next rest) ]
 
 pub length-tidied : (next : ℕ) (rows : List Numbered) → length (tidied next rows) ≤ length rows
 unfolding strongest
@@ -97,4 +98,4 @@ unfolding next_rows
 length-next_rows choice next rows =
     length-append (rows_without choice.column rows) (numbered_from next (map (combined_at choice.column rows) (pairs_for choice rows)))
     ∙ ap (λ n. length (rows_without choice.column rows) + n)
-        (length-numbered_from next (map (combined_at choice.column rows) (pairs_for choice rows)) ∙ length-map (pairs_for choice rows) (combined_at choice.column rows))
+    (length-numbered_from next (map (combined_at choice.column rows) (pairs_for choice rows)) ∙ length-map (pairs_for choice rows) (combined_at choice.column rows))

@@ -18,3 +18,4 @@ pub mod Staged
 pub mod Sound
 pub mod Refuting
 pub mod Small
+pub mod Given

@@ -1,6 +1,6 @@
 -- Numbering on: what one more row adds.
-use Rattle.std.proofs.Common.{◌≡◌, ℕ, suc, ◌+◌, ap, refl, sym, ◌∙◌, List, [], ◌∷◌, ◌++◌, length, arith, take, map, append_assoc}
-use Rattle.std.proofs.lemmas.List.{map-append, length-map}
+use Rattle.std.proofs.Common.{◌≡◌, ℕ, suc, ◌+◌, ap, refl, sym, ◌∙◌, List, [], ◌∷◌, ◌++◌, length, arith, take, map, append_assoc, get_or, ◌<◌}
+use Rattle.std.proofs.lemmas.List.{map-append, length-map, take_more, length-take-le}
 use Rattle.az_lin.specs.Affine.{Affine}
 use Rattle.farkas_find.specs.declared.numbered.Numbered.{Numbered}
 use Rattle.farkas_find.specs.declared.choice.Pair.{Pair}
@@ -47,3 +47,15 @@ pub length-numbered_from : (next : ℕ) (rows : List Affine) → length (numbere
 unfolding numbered_from
 length-numbered_from next [] = refl
 length-numbered_from next (row ∷ rows) = ap suc (length-numbered_from (next + 1) rows)
+
+-- a turn of the loop that numbers rows as they stand
+pub numbers_next : (i : ℕ) (rows : List Affine) (row : Affine) (so_far : List Numbered) → i < length rows → row ≡ get_or rows i row
+    → so_far ≡ numbered_from 0 (take i rows) → so_far ++ record { row = row; number = i } ∷ [] ≡ numbered_from 0 (take (i + 1) rows)
+numbers_next i rows row so_far inside here before =
+    let many : length (take i rows) ≡ i = length-take-le i rows (omega arith) in
+    let count : i ≡ 0 + length (take i rows) = omega arith in
+    let one : Numbered = record { row = row; number = i } in
+    let wanted : Numbered = record { row = row; number = 0 + length (take i rows) } in
+    let same : one ≡ wanted = rw (← count) refl in
+    let more : take (i + 1) rows ≡ take i rows ++ row ∷ [] = take_more rows i row inside ∙ ap (λ r. take i rows ++ r ∷ []) (sym here) in
+    rw (more, numbered_from-push 0 (take i rows) row, before, same) refl

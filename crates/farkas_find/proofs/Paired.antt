@@ -90,21 +90,25 @@ all_pairs-are_pairs column rows =
     let plus_pass : All (PassesAt (λ it. has_sign true (coef_at column it)) rows) pluses = places_pass (λ it. has_sign true (coef_at column it)) rows in
     let minus_pass : All (PassesAt (λ it. has_sign false (coef_at column it)) rows) minuses = places_pass (λ it. has_sign false (coef_at column it)) rows in
     let each : All (λ plus. All (IsPair column rows) (pairs_of minuses plus)) pluses =
-        λ k d inside. All-map (IsPair column rows) (λ (minus : ℕ). record { plus = get_or pluses k d; minus = minus }) minuses
-            (λ j e within. record {
-                plus_inside = (plus_pass k d inside).0;
-                minus_inside = (minus_pass j e within).0;
-                positive = (plus_pass k d inside).1;
-                negative = (minus_pass j e within).1;
-            }) in
+    λ k d inside. All-map (IsPair column rows) (λ (minus : ℕ). record { plus = get_or pluses k d; minus = minus }) minuses
+    (λ j e within. record {
+      plus_inside = (plus_pass k d inside).0;
+      minus_inside = (minus_pass j e within).0;
+      positive = (plus_pass k d inside).1;
+      negative = (minus_pass j e within).1;
+    }) in
     All-flat_map (IsPair column rows) (pairs_of minuses) pluses each
 
 other_sign : (z : ℤ) → not (is_zero z) ≡ true → is_positive z ≡ false → is_negative z ≡ true
 other_sign z nonzero below = grind (arith, ints)
 
-left_of_and : (a b : Bool) → (a && b) ≡ true → a ≡ true
+pub left_of_and : (a b : Bool) → (a && b) ≡ true → a ≡ true
 left_of_and true b h = refl
 left_of_and false b h = h
+
+pub right_of_and : (a b : Bool) → (a && b) ≡ true → b ≡ true
+right_of_and true b h = h
+right_of_and false b h = absurd (cc)
 
 partner-is_pair : (column : ℕ) (chosen : Pair) (rows : List Numbered) → IsPair column rows chosen
     → (place : ℕ) → place < length rows → is_other column chosen rows place ≡ true → IsPair column rows (partner column chosen rows place)
@@ -113,11 +117,11 @@ partner-is_pair column chosen rows pair place inside other =
     let coef : ℤ = coef_at column (row_at rows place) in
     let nonzero : not (is_zero coef) ≡ true = left_of_and (not (is_zero coef)) (not (nat_eq place chosen.plus || nat_eq place chosen.minus)) other in
     let above : is_positive coef ≡ true → IsPair column rows (record { plus = place; minus = chosen.minus }) =
-        λ p. record { plus_inside = inside; minus_inside = pair.minus_inside; positive = p; negative = pair.negative } in
+    λ p. record { plus_inside = inside; minus_inside = pair.minus_inside; positive = p; negative = pair.negative } in
     let below : is_positive coef ≡ false → IsPair column rows (record { plus = chosen.plus; minus = place }) =
-        λ p. record { plus_inside = pair.plus_inside; minus_inside = inside; positive = pair.positive; negative = other_sign coef nonzero p } in
+    λ p. record { plus_inside = pair.plus_inside; minus_inside = inside; positive = pair.positive; negative = other_sign coef nonzero p } in
     (elim (is_positive coef) as (λ b. is_positive coef ≡ b → IsPair column rows (cond b (record { plus = place; minus = chosen.minus }) (record { plus = chosen.plus; minus = place })))
-      [ true ↦ above | false ↦ below ]) refl
+    [ true ↦ above | false ↦ below ]) refl
 
 pub pairs_with-are_pairs : (column : ℕ) (chosen : Pair) (rows : List Numbered) → IsPair column rows chosen → All (IsPair column rows) (pairs_with column chosen rows)
 unfolding pairs_with
@@ -125,8 +129,8 @@ pairs_with-are_pairs column chosen rows pair =
     let here : List ℕ = range_with_len 0 (length rows) in
     let test : ℕ → Bool = is_other column chosen rows in
     All-map (IsPair column rows) (partner column chosen rows) (filter test here)
-        (λ k d inside. partner-is_pair column chosen rows pair (get_or (filter test here) k d)
-            (All-filter test (λ place. place < length rows) here (inside_range (length rows)) k d inside) (filter_passes test here k d inside))
+    (λ k d inside. partner-is_pair column chosen rows pair (get_or (filter test here) k d)
+    (All-filter test (λ place. place < length rows) here (inside_range (length rows)) k d inside) (filter_passes test here k d inside))
 
 pairs_by-are_pairs : (column : ℕ) (pair : Option Pair) (rows : List Numbered) → IsPairChoice column rows pair → All (IsPair column rows) (pairs_by column pair rows)
 pairs_by-are_pairs column None rows is = all_pairs-are_pairs column rows

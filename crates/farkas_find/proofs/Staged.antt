@@ -46,8 +46,8 @@ gone_of_counts column (it ∷ rest) plus minus =
     let no_plus : plus_here ≡ 0 = omega (arith, plus_all, plus) in
     let no_minus : minus_here ≡ 0 = omega (arith, minus_all, minus) in
     All-cons (λ it. coef_at column it ≡ pos 0) it rest
-      (sign_of (coef_at column it) (unmarked (is_positive (coef_at column it)) no_plus) (unmarked (is_negative (coef_at column it)) no_minus))
-      (gone_of_counts column rest (omega (arith, plus_all, plus)) (omega (arith, minus_all, minus)))
+    (sign_of (coef_at column it) (unmarked (is_positive (coef_at column it)) no_plus) (unmarked (is_negative (coef_at column it)) no_minus))
+    (gone_of_counts column rest (omega (arith, plus_all, plus)) (omega (arith, minus_all, minus)))
 
 pub gone_of_dead : (column : ℕ) (rows : List Numbered) → is_live column rows ≡ false → IsGone column rows
 gone_of_dead column rows dead =
@@ -144,17 +144,17 @@ stands_next kept width given number stage next stands follows =
     let good = choice_of-Some (Contains columns) columns rows choice (All-contains_itself columns) follows.chooses.chosen in
     let W : List Numbered → Type 0 = HaveWidth width in
     let gone_after : (column : ℕ) → IsGone column rows → IsGone column next.rows =
-        λ column gone. let G : List Numbered → Type 0 = IsGone column in subst G (sym rows_are) (IsGone-next_rows width column choice after rows wide pairs gone) in
+    λ column gone. let G : List Numbered → Type 0 = IsGone column in subst G (sym rows_are) (IsGone-next_rows width column choice after rows wide pairs gone) in
     let implies : (column : ℕ) → is_live column next.rows ≡ true → is_live column stage.rows ≡ true =
-        λ column live. live_unless_gone column stage.rows (λ gone. not_gone column next.rows live (gone_after column (IsGone-tidied column stage.next stage.rows gone))) in
+    λ column live. live_unless_gone column stage.rows (λ gone. not_gone column next.rows live (gone_after column (IsGone-tidied column stage.next stage.rows gone))) in
     let chosen_gone : IsGone choice.column next.rows =
-        let G : List Numbered → Type 0 = IsGone choice.column in subst G (sym rows_are) (IsGone-chosen width choice after rows wide pairs) in
+    let G : List Numbered → Type 0 = IsGone choice.column in subst G (sym rows_are) (IsGone-chosen width choice after rows wide pairs) in
     let off : is_live choice.column next.rows ≡ false = dead_of_gone choice.column next.rows chosen_gone in
     let on : is_live choice.column stage.rows ≡ true = live_unless_gone choice.column stage.rows (λ gone. good.there (IsGone-tidied choice.column stage.next stage.rows gone)) in
     let fewer : count_live columns next.rows < count_live columns stage.rows =
-        count-lt (λ column. is_live column next.rows) (λ column. is_live column stage.rows) implies columns good.may_go.0 choice.column good.may_go.1
-          (subst (λ (column : ℕ). is_live column next.rows ≡ false) (sym good.may_go.2) off)
-          (subst (λ (column : ℕ). is_live column stage.rows ≡ true) (sym good.may_go.2) on) in
+    count-lt (λ column. is_live column next.rows) (λ column. is_live column stage.rows) implies columns good.may_go.0 choice.column good.may_go.1
+    (subst (λ (column : ℕ). is_live column next.rows ≡ false) (sym good.may_go.2) off)
+    (subst (λ (column : ℕ). is_live column stage.rows ≡ true) (sym good.may_go.2) on) in
     record {
       reached = rw add-one (stage, stands.reached, follows);
       widths = subst W (sym rows_are) (HaveWidth-next_rows width choice after rows wide pairs);

@@ -14,7 +14,7 @@ use Rattle.farkas_find.specs.Combining.{HaveWidth, IsPair, plus_weight, minus_we
 use Rattle.farkas_find.specs.Stages.{pairs_for, next_rows}
 use Rattle.farkas_find.proofs.Keeping.{KeptByRounding, kept_by_rounded, Every-tidied, Every-next_rows, Every-without}
 
-abbrev HasLength : ℕ → Affine → Type 0
+abbrev pub HasLength : ℕ → Affine → Type 0
 HasLength width row = length row.coefs ≡ width
 
 length-kept : (width : ℕ) → KeptByRounding (HasLength width)
@@ -32,14 +32,14 @@ length-combined : (width column : ℕ) (plus minus : Numbered) → length plus.r
 unfolding combined sum_without
 length-combined width column plus minus p m =
     kept_by_rounded (HasLength width) (length-kept width) (sum_without column plus minus)
-      (length-scaled_sums (plus_weight column plus minus) plus.row.coefs (minus_weight column plus minus) minus.row.coefs (p ∙ sym m) ∙ p)
+    (length-scaled_sums (plus_weight column plus minus) plus.row.coefs (minus_weight column plus minus) minus.row.coefs (p ∙ sym m) ∙ p)
 
 pub HaveWidth-next_rows : (width : ℕ) (choice : Choice) (next : ℕ) (rows : List Numbered) → HaveWidth width rows → All (IsPair choice.column rows) (pairs_for choice rows)
     → HaveWidth width (next_rows choice next rows)
 HaveWidth-next_rows width choice next rows all pairs =
     let nothing : Numbered = record { row = record { coefs = []; konst = pos 0 }; number = 0 } in
     Every-next_rows (HasLength width) choice next rows (Every-without (HasLength width) choice.column rows all)
-      (λ k d inside.
-        let pair : Pair = get_or (pairs_for choice rows) k d in
-        let is : IsPair choice.column rows pair = pairs k d inside in
-        length-combined width choice.column (row_at rows pair.plus) (row_at rows pair.minus) (all pair.plus nothing is.plus_inside) (all pair.minus nothing is.minus_inside))
+    (λ k d inside.
+    let pair : Pair = get_or (pairs_for choice rows) k d in
+    let is : IsPair choice.column rows pair = pairs k d inside in
+    length-combined width choice.column (row_at rows pair.plus) (row_at rows pair.minus) (all pair.plus nothing is.plus_inside) (all pair.minus nothing is.minus_inside))

@@ -11,7 +11,11 @@ use Rattle.farkas_find.specs.declared.choice.Pair.{Pair}
 use Rattle.farkas_find.specs.declared.choice.Choice.{Choice}
 use Rattle.farkas_find.specs.declared.next.NextRows.{NextRows}
 use Rattle.farkas_find.specs.declared.trail.Stage.{Stage}
-use Rattle.farkas_find.specs.declared.trail.Ended.TheVariants.{Left}
+use Rattle.farkas_find.specs.declared.trail.Ended.{Ended}
+use Rattle.farkas_find.specs.declared.trail.Ended.TheVariants.{Refuted, Left}
+use Rattle.farkas_find.specs.declared.left.Left.{Left as Rest}
+use Rattle.farkas_find.specs.declared.left.Left.TheVariants.{Contradiction, Rows}
+use Rattle.farkas_find.specs.Answers.{AreRows, choice_in}
 use Rattle.farkas_find.specs.declared.trail.Finished.{Finished}
 use Rattle.farkas_find.specs.declared.advance.Advanced.{Advanced}
 use Rattle.farkas_find.specs.declared.advance.Advanced.TheVariants.{Last, Next}
@@ -93,3 +97,36 @@ RunAnswers columns given (Ok finished) = Finishes columns given finished
 RunAnswers columns given (Err (Overflow s)) = LeavesRangeAt columns given s
 RunAnswers columns given (Err (Limit limit)) = (limit ≡ TooManyRows) × PassesLimit columns given
 RunAnswers columns given (Err Memory) = Unit {0}
+
+-- the given rows, if a stage may have so many
+abbrev pub GivenAnswers : List Numbered → Result (Vec Numbered) FindFault → Type 0
+GivenAnswers wanted (Ok given) = HasFew wanted × (given.items ≡ wanted)
+GivenAnswers wanted (Err (Overflow s)) = ⊥
+GivenAnswers wanted (Err (Limit limit)) = (limit ≡ TooManyRows) × HasMany wanted
+GivenAnswers wanted (Err Memory) = Unit {0}
+
+-- dropping a column from tidied rows
+abbrev pub DroppedTo : ℕ → ℕ → List Numbered → Rest → Type 0
+DroppedTo column next rows Contradiction = ⊥
+DroppedTo column next rows (Rows left) =
+    HasFew (next_rows (choice_in column rows) next rows) × StaysWide (choice_in column rows) rows × AreRows (next_rows (choice_in column rows) next rows) left
+
+abbrev pub DroppedAnswers : ℕ → ℕ → List Numbered → Result Rest FindFault → Type 0
+DroppedAnswers column next rows (Ok left) = DroppedTo column next rows left
+DroppedAnswers column next rows (Err (Overflow s)) =
+    (s ≡ 0) × HasFew (next_rows (choice_in column rows) next rows) × (¬ StaysWide (choice_in column rows) rows)
+DroppedAnswers column next rows (Err (Limit limit)) = (limit ≡ TooManyRows) × HasMany (next_rows (choice_in column rows) next rows)
+DroppedAnswers column next rows (Err Memory) = Unit {0}
+
+-- handing out what the last stage left
+abbrev pub EndsAs : Ended → Rest → Type 0
+EndsAs (Refuted number) Contradiction = Unit {0}
+EndsAs (Refuted number) (Rows left) = ⊥
+EndsAs (Left rows) Contradiction = ⊥
+EndsAs (Left rows) (Rows left) = AreRows rows left
+
+abbrev pub EndAnswers : Ended → Result Rest FindFault → Type 0
+EndAnswers ended (Ok rest) = EndsAs ended rest
+EndAnswers ended (Err (Overflow s)) = ⊥
+EndAnswers ended (Err (Limit limit)) = ⊥
+EndAnswers ended (Err Memory) = Unit {0}

@@ -119,7 +119,7 @@ PassesLimit columns given = HasMany given ⊎ ((s : ℕ) × GrowsAt columns give
 abbrev pub EndsBy : List ℕ → Stage → Ended → Type 0
 EndsBy columns stage (Refuted number) =
     (place : ℕ) × (contradiction_in stage.next stage.rows ≡ Some place)
-      × (number ≡ (row_at (rounded_rows stage.next stage.rows) place).number)
+    × (number ≡ (row_at (rounded_rows stage.next stage.rows) place).number)
 EndsBy columns stage (Left left) =
     (contradiction_in stage.next stage.rows ≡ None) × (choice_of columns (tidied_rows stage) ≡ None) × (left ≡ tidied_rows stage)
 

@@ -5,6 +5,7 @@ ghost use Rattle.std.specs.List.{range_with_len};
 ghost use Rattle.std.specs.Option.{option_map};
 ghost use Rattle.farkas_find.specs.Tidying.{coef_at};
 ghost use Rattle.farkas_find.specs.Combining.{HaveWidth, has_sign};
+ghost use Rattle.farkas_find.specs.Answers.{choice_in};
 ghost use Rattle.farkas_find.specs.Choosing.{negative_place, oriented, pair_at, pair_in, choice_by_pair, count_with, is_free, free_columns, column_by_count, choice_of, better_of, count_of_best};
 
 use crate::choice::{Choice, Pair};
@@ -183,4 +184,21 @@ pub(crate) fn choice_of(
         Some(column) => Ok(Some(Choice { column, pair: None })),
         None => Ok(None),
     }
+}
+
+/// One column as a choice, with the pair in it if there is one.
+#[tactic(auto, unfolding(crate::specs::Answers::choice_in))]
+pub(crate) fn choice_in(
+    alloc: Global,
+    column: usize,
+    rows: &[Numbered],
+    width: usize,
+) -> Result<Choice, AllocError>
+    requires inside { column < width }
+    requires widths { HaveWidth width rows.now }
+    ensures { IfOk result (λ choice. choice ≡ choice_in column rows.now) }
+{
+    let negatives = negative_places(alloc, rows)?;
+    let pair = pair_in(column, rows, negatives.as_slice(), width);
+    Ok(Choice { column, pair })
 }

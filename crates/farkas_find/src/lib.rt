@@ -20,14 +20,17 @@ mod numbered;
 mod pairs;
 mod parting;
 mod prune;
+mod range;
 mod rounding;
 mod run;
+mod single;
 mod stage;
+mod stored;
 mod trail;
 mod wide;
 mod within;
 
-pub use calls::tidy;
+pub use calls::{drop_column, range_rows, tidy};
 pub use fault::FindFault;
 pub use left::Left;
 pub use wide::WideRow;

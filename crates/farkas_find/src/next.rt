@@ -48,7 +48,16 @@ pub(crate) fn next_rows(
         return Err(FindFault::Limit(Limit::Rows));
     };
     let column = choice.column;
-    let Some(mut made) = made(alloc, column, rows.as_slice(), pairs.as_slice(), next, steps, width)? else {
+    let Some(mut made) = made(
+        alloc,
+        column,
+        rows.as_slice(),
+        pairs.as_slice(),
+        next,
+        steps,
+        width,
+    )?
+    else {
         return Err(FindFault::Overflow(stage));
     };
     let parted = part(alloc, column, rows, width)?;

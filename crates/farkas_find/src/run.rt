@@ -3,14 +3,14 @@
 ghost use Rattle.std.specs.Prelude.{◌≡◌, ◌≤◌, ◌<◌};
 ghost use Rattle.farkas_find.specs.Combining.{HaveWidth};
 ghost use Rattle.farkas_find.specs.Choosing.{free_columns};
+ghost use Rattle.farkas_find.specs.Stages.{HasFew};
 ghost use Rattle.farkas_find.specs.Nexts.{RunAnswers};
 
 use crate::FindFault;
 use crate::advance::Advanced;
-use crate::next::MOST_ROWS;
 use crate::numbered::Numbered;
 use crate::trail::{Finished, Stage};
-use az_lin::{Limit, List};
+use az_lin::List;
 use std::alloc::Global;
 
 /// Goes through the stages of rows that are numbered from 0, with every column but `kept`.
@@ -21,16 +21,14 @@ pub(crate) fn run_stages(
     width: usize,
 ) -> Result<Finished, FindFault>
     requires widths { HaveWidth width rows.items }
+    requires few { HasFew rows.items }
     requires narrow { width ≤ 4096 }
     ensures { RunAnswers (free_columns kept width) rows.items result }
 {
-    let count = rows.len();
-    if count > MOST_ROWS {
-        return Err(FindFault::Limit(Limit::Rows));
-    }
+    let next = rows.len() as u32;
     let mut stage = Stage {
         rows: List::from_vec(rows),
-        next: count as u32,
+        next,
         steps: List::new(alloc),
         trail: List::new(alloc),
     };

@@ -3,11 +3,14 @@
 ghost use Rattle.std.specs.Prelude.{◌≡◌, ◌≤◌, All, length, map, IfOk, IfErr};
 ghost use Rattle.farkas_find.specs.Combining.{numbered_from};
 ghost use Rattle.farkas_find.specs.Rows.{affine_of, HasWideRow};
+ghost use Rattle.farkas_find.specs.Stages.{given_rows};
+ghost use Rattle.farkas_find.specs.Nexts.{GivenAnswers};
 ghost use Rattle.farkas_find.specs.declared.fault.FindFault.TheVariants.{Memory};
 
 use crate::FindFault;
+use crate::next::MOST_ROWS;
 use crate::numbered::Numbered;
-use az_lin::{ExactRow, List};
+use az_lin::{ExactRow, Limit, List};
 use std::alloc::Global;
 
 /// A row whose entries lie within ±(2^127 - 1).
@@ -18,7 +21,7 @@ pub struct WideRow {
 }
 
 /// The rows, numbered from 0.
-pub(crate) fn numbered(alloc: Global, rows: &[WideRow]) -> Result<Vec<Numbered>, FindFault>
+fn numbered(alloc: Global, rows: &[WideRow]) -> Result<Vec<Numbered>, FindFault>
     requires range { All HasWideRow rows.now }
     requires few { length rows.now ≤ 20000 }
     ensures ok { IfOk result (λ got. got.items ≡ numbered_from 0 (map affine_of rows.now)) }
@@ -34,6 +37,17 @@ pub(crate) fn numbered(alloc: Global, rows: &[WideRow]) -> Result<Vec<Numbered>,
         })?;
     }
     Ok(numbered)
+}
+
+/// The rows, numbered from 0, if a stage may have so many.
+pub(crate) fn given_rows(alloc: Global, rows: &[WideRow]) -> Result<Vec<Numbered>, FindFault>
+    requires { All HasWideRow rows.now }
+    ensures { GivenAnswers (given_rows (map affine_of rows.now)) result }
+{
+    if rows.len() > MOST_ROWS {
+        return Err(FindFault::Limit(Limit::Rows));
+    }
+    numbered(alloc, rows)
 }
 
 fn wide(alloc: Global, row: &ExactRow) -> Result<WideRow, FindFault>

@@ -37,9 +37,11 @@ returns-in_default-2-clause-result c =
     let pairs_are : c.as_slice-4.result.now ≡ pairs_for choice rows = c.as_slice-4.ensures.value ∙ within.1 ∙ ap (pairs_for choice) c.as_slice-2.ensures.value in
     let within_most : length (pairs_for choice rows) ≤ 20000 - c.count_without-most.result = rw (← c.as_slice-2.ensures.value) within.0 in
     let without : c.count_without-most.result ≡ length (rows_without choice.column rows) = rw (← c.as_slice.ensures.value) c.count_without-most.ensures.value in
-    let small : c.count_without-most.result ≤ 20000 = omega arith in
-    (refl, few_next choice c.args.next rows (20000 - c.count_without-most.result) c.count_without-most.result refl without small within_most,
-      λ wide. leaves (rw (pairs_are, c.as_slice-3.ensures.value) wide))
+    let small : c.count_without-most.result ≤ 20000 = omega arith in (
+      refl,
+      few_next choice c.args.next rows (20000 - c.count_without-most.result) c.count_without-most.result refl without small within_most,
+      λ wide. leaves (rw (pairs_are, c.as_slice-3.ensures.value) wide),
+    )
 
 pub returns-clause-result : goal.returns-clause-result
 returns-clause-result c =
@@ -52,7 +54,7 @@ returns-clause-result c =
     let without : c.count_without-most.result ≡ length (rows_without choice.column rows) = rw (← c.as_slice.ensures.value) c.count_without-most.ensures.value in
     let small : c.count_without-most.result ≤ 20000 = omega arith in
     let made_are : c.in-Some-2.made.items ≡ numbered_from c.args.next (map (combined_at choice.column rows) (pairs_for choice rows)) =
-        rw (← pairs_are, ← c.as_slice-3.ensures.value) made.1 in
+    rw (← pairs_are, ← c.as_slice-3.ensures.value) made.1 in
     record {
       few = few_next choice c.args.next rows (20000 - c.count_without-most.result) c.count_without-most.result refl without small within_most;
       wide = rw (← pairs_are, ← c.as_slice-3.ensures.value) made.0;

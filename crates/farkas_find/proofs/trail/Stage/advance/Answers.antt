@@ -72,11 +72,11 @@ returns-in-Kept c =
     let stage = c.args.self in
     let more = added c.into_vec.result.items c.into_vec-steps.result.items c.tidied.new.steps.items c.in_ok-found.ensures.steps in
     let count : c.len.result - c.len-before.result ≡ length (rounding_steps c.into_vec.result.items) =
-        omega (arith, more.0, more.1, c.len.ensures, c.len-before.ensures, c.tidied.new.steps.ok.0, c.into_vec-steps.result.ok.0) in
+    omega (arith, more.0, more.1, c.len.ensures, c.len-before.ensures, c.tidied.new.steps.ok.0, c.into_vec-steps.result.ok.0) in
     let rows : c.from_vec-rows.result ≡ tidied_rows stage = c.from_vec-rows.ensures ∙ found.1 ∙ rw c.into_vec.ensures refl in
     let steps : c.from_vec-steps.result ≡ stage.steps ++ rounding_steps stage.rows = c.from_vec-steps.ensures ∙ c.in_ok-found.ensures.steps ∙ rw (c.into_vec-steps.ensures, c.into_vec.ensures) refl in
     let next : stage.next + (c.len.result - c.len-before.result) ≡ stage.next + length (rounding_steps stage.rows) =
-        ap (λ n. stage.next + n) count ∙ ap (λ xs. stage.next + length (rounding_steps xs)) c.into_vec.ensures in
+    ap (λ n. stage.next + n) count ∙ ap (λ xs. stage.next + length (rounding_steps xs)) c.into_vec.ensures in
     let made : Stage = record { rows = c.from_vec-rows.result; next = stage.next + (c.len.result - c.len-before.result); steps = c.from_vec-steps.result; trail = stage.trail } in
     let same : made ≡ tidied_stage stage = rw (rows, next, steps) refl in
     let P : Stage → Type 0 = λ s. ChosenAnswers (free_columns c.args.kept c.args.width) s c.args.number c.choose_column.result in

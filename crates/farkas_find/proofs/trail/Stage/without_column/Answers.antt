@@ -17,8 +17,8 @@ added : (choice : Choice) (next : ℕ) (rows : List Numbered) (old new : List St
     → (length new - length old ≡ length (pairs_for choice rows)) × (length (pairs_for choice rows) ≤ 20000)
 added choice next rows old new few is =
     let many : length new ≡ length old + length (pairs_for choice rows) =
-        ap length is ∙ length-append old (map (step_at choice.column rows) (pairs_for choice rows))
-        ∙ ap (λ n. length old + n) (length-map (pairs_for choice rows) (step_at choice.column rows)) in
+    ap length is ∙ length-append old (map (step_at choice.column rows) (pairs_for choice rows))
+    ∙ ap (λ n. length old + n) (length-map (pairs_for choice rows) (step_at choice.column rows)) in
     (omega arith, omega (arith, length-next_rows choice next rows))
 
 stage_is : (choice : Choice) (stage : Stage) (rows : List Numbered) (next : ℕ) (steps : List Step) (trail : List Eliminated)
@@ -50,13 +50,13 @@ returns c =
     let rows_same : c.into_vec-rows.result.items ≡ c.args.self.rows = c.into_vec-rows.ensures in
     let more = added choice c.args.self.next c.into_vec-rows.result.items c.into_vec-steps.result.items c.next_rows.new.steps.items made.few c.in_ok-made.ensures.steps in
     let count : c.len.result - c.len-before.result ≡ length (pairs_for choice c.into_vec-rows.result.items) =
-        omega (arith, more.0, more.1, c.len.ensures, c.len-before.ensures, c.next_rows.new.steps.ok.0, c.into_vec-steps.result.ok.0) in
+    omega (arith, more.0, more.1, c.len.ensures, c.len-before.ensures, c.next_rows.new.steps.ok.0, c.into_vec-steps.result.ok.0) in
     let rows : c.from_vec-2.result ≡ next_rows choice c.args.self.next c.args.self.rows = c.from_vec-2.ensures ∙ made.rows ∙ ap (next_rows choice c.args.self.next) rows_same in
     record {
       few = rw rows (rw (← rows_same) made.few);
       wide = rw (← rows_same) made.wide;
       is = stage_is choice c.args.self c.from_vec-2.result (c.args.self.next + (c.len.result - c.len-before.result)) c.from_vec-3.result c.push.new.self rows
-        (ap (λ n. c.args.self.next + n) count ∙ ap (λ xs. c.args.self.next + length (pairs_for choice xs)) rows_same)
-        (c.from_vec-3.ensures ∙ c.in_ok-made.ensures.steps ∙ rw (rows_same, c.into_vec-steps.ensures) refl)
-        (c.in_ok-push.ensures.ok ∙ rw (c.from_vec.ensures, made.used, rows_same) refl);
+          (ap (λ n. c.args.self.next + n) count ∙ ap (λ xs. c.args.self.next + length (pairs_for choice xs)) rows_same)
+          (c.from_vec-3.ensures ∙ c.in_ok-made.ensures.steps ∙ rw (rows_same, c.into_vec-steps.ensures) refl)
+          (c.in_ok-push.ensures.ok ∙ rw (c.from_vec.ensures, made.used, rows_same) refl);
     }

@@ -12,3 +12,8 @@ pub mod Chosen
 pub mod Gone
 pub mod Staged
 pub mod Sound
+pub mod InPlace
+pub mod Reduced
+pub mod Products
+pub mod Bounds
+pub mod Placing

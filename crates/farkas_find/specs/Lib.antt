@@ -3,5 +3,6 @@ pub mod Combining
 pub mod Choosing
 pub mod Stages
 pub mod Nexts
+pub mod BackSubstitution
 pub mod Rows
 pub mod Answers

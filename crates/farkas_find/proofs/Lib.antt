@@ -19,3 +19,8 @@ pub mod Sound
 pub mod Refuting
 pub mod Small
 pub mod Given
+pub mod InPlace
+pub mod Reduced
+pub mod Products
+pub mod Bounds
+pub mod Placing

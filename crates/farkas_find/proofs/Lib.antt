@@ -24,3 +24,6 @@ pub mod Reduced
 pub mod Products
 pub mod Bounds
 pub mod Placing
+pub mod Trails
+pub mod SmallPoint
+pub mod Decided

@@ -1,9 +1,9 @@
 -- The log of the steps: each is valid, and each row of a stage is the row that its number names.
-use Rattle.std.proofs.Common.{◌≡◌, ℕ, zero, suc, ◌+◌, ◌<◌, ◌≤◌, ◌∙◌, sym, subst, subst₂, ap, ap₂, refl, arith, Bool, true, false, cond, List, [], ◌∷◌, ◌++◌, length, get_or, map, All, ℤ, pos, unsigned_abs, ◌≤ℤ◌, ◌<ℤ◌, nat_lt}
+use Rattle.std.proofs.Common.{◌≡◌, ℕ, zero, suc, ◌+◌, ◌<◌, ◌∙◌, sym, subst, subst₂, ap, ap₂, refl, arith, Bool, true, false, cond, List, [], ◌∷◌, ◌++◌, length, map, All, ℤ, pos, ◌≤ℤ◌, ◌<ℤ◌, nat_lt}
 use Rattle.std.proofs.Common.{length-append}
 use Rattle.std.proofs.lemmas.Int.{ints}
 use Rattle.std.proofs.lemmas.List.Elements.{All-nil, All-cons, All-head, All-tail, All-get_or, All-push, All-weaker}
-use Rattle.az_lin.specs.Affine.{Affine, IsWide}
+use Rattle.az_lin.specs.Affine.{Affine}
 use Rattle.az_lin.specs.Combination.{HasWideEntries, IsWideCombination, combination, quotient}
 use Rattle.az_lin.specs.CommonDivisor.{gcd_of_all, DividesEach}
 use Rattle.az_lin.specs.Derivation.{IsStep, sum_of, row_of, rows_after, AllSteps}
@@ -119,27 +119,27 @@ rounding-logged made next (it ∷ rest) count wide all =
     let new : Numbered = record { row = rounded it.row; number = next } in
     let plain = rounding-logged made next rest count wide others in
     let stay : is_rounded it.row ≡ false → Logged made (rounding_steps rest) (it ∷ rounded_rows next rest) = λ h. record {
-        good = plain.good;
-        are_made = All-cons (IsMade (rows_after made (rounding_steps rest))) it (rounded_rows next rest) (IsMade-after made (rounding_steps rest) it here) plain.are_made;
-      } in
+      good = plain.good;
+      are_made = All-cons (IsMade (rows_after made (rounding_steps rest))) it (rounded_rows next rest) (IsMade-after made (rounding_steps rest) it here) plain.are_made;
+    } in
     let change : is_rounded it.row ≡ true → Logged made (step ∷ rounding_steps rest) (new ∷ rounded_rows (next + 1) rest) = λ h.
-        let above : 0 < gcd_of_all it.row.coefs = above_zero (gcd_of_all it.row.coefs) h in
-        let valid : IsStep made step = rounding-valid made it.number it.row here.below here.row (wide_made made it wide here) above in
-        let row = row_of made step in
-        let same : row ≡ rounded it.row = row_of-rounding made it.number it.row here.row ∙ rounded_is it.row h in
-        let more = rounding-logged (made ++ row ∷ []) (next + 1) rest (omega (arith, count, length-append made (row ∷ [])))
-          (All-push HasWideEntries made row wide valid.result_in_range) (all_pushed made row rest others) in
-        record {
-          good = (valid, more.good);
-          are_made = All-cons (IsMade (rows_after (made ++ row ∷ []) (rounding_steps rest))) new (rounded_rows (next + 1) rest)
-            (IsMade-after (made ++ row ∷ []) (rounding_steps rest) new (IsMade-last made row new count same)) more.are_made;
-        } in
+    let above : 0 < gcd_of_all it.row.coefs = above_zero (gcd_of_all it.row.coefs) h in
+    let valid : IsStep made step = rounding-valid made it.number it.row here.below here.row (wide_made made it wide here) above in
+    let row = row_of made step in
+    let same : row ≡ rounded it.row = row_of-rounding made it.number it.row here.row ∙ rounded_is it.row h in
+    let more = rounding-logged (made ++ row ∷ []) (next + 1) rest (omega (arith, count, length-append made (row ∷ [])))
+    (All-push HasWideEntries made row wide valid.result_in_range) (all_pushed made row rest others) in
+    record {
+      good = (valid, more.good);
+      are_made = All-cons (IsMade (rows_after (made ++ row ∷ []) (rounding_steps rest))) new (rounded_rows (next + 1) rest)
+          (IsMade-after (made ++ row ∷ []) (rounding_steps rest) new (IsMade-last made row new count same)) more.are_made;
+    } in
     go (is_rounded it.row) refl stay change
   where
     go : (b : Bool) → is_rounded it.row ≡ b → (is_rounded it.row ≡ false → Logged made (rounding_steps rest) (it ∷ rounded_rows next rest))
         → (is_rounded it.row ≡ true → Logged made (step_rounding it.number (gcd_of_all it.row.coefs) ∷ rounding_steps rest) (record { row = rounded it.row; number = next } ∷ rounded_rows (next + 1) rest))
         → Logged made (cond (is_rounded it.row) (step_rounding it.number (gcd_of_all it.row.coefs) ∷ rounding_steps rest) (rounding_steps rest))
-          (cond (is_rounded it.row) (record { row = rounded it.row; number = next } ∷ rounded_rows (next + 1) rest) (it ∷ rounded_rows next rest))
+        (cond (is_rounded it.row) (record { row = rounded it.row; number = next } ∷ rounded_rows (next + 1) rest) (it ∷ rounded_rows next rest))
     go true h stay change = rw h (change h)
     go false h stay change = rw h (stay h)
 
@@ -174,8 +174,10 @@ sum_by column plus minus = combination (plus_weight column plus minus) plus.row 
 
 abbrev step_by : ℕ → Numbered → Numbered → Step
 step_by column plus minus = record {
-  a = plus_weight column plus minus; i = plus.number;
-  b = minus_weight column plus minus; j = minus.number;
+  a = plus_weight column plus minus;
+  i = plus.number;
+  b = minus_weight column plus minus;
+  j = minus.number;
   g = pos (at_least_one (gcd_of_all (sum_by column plus minus).coefs));
 }
 
@@ -243,9 +245,9 @@ combining-logged made next column rows (pair ∷ pairs) count all are_pairs fit 
     let same : row ≡ combined_at column rows pair = row_of-combining made column (row_at rows pair.plus) (row_at rows pair.minus) p q in
     let new : Numbered = record { row = combined_at column rows pair; number = next } in
     let more = combining-logged (made ++ row ∷ []) (next + 1) column rows pairs (omega (arith, count, length-append made (row ∷ [])))
-      (all_pushed made row rows all) (All-tail (IsPair column rows) pair pairs are_pairs) (All-tail (FitsAt column rows) pair pairs fit) in
+    (all_pushed made row rows all) (All-tail (IsPair column rows) pair pairs are_pairs) (All-tail (FitsAt column rows) pair pairs fit) in
     record {
       good = (valid, more.good);
       are_made = All-cons (IsMade (rows_after (made ++ row ∷ []) (map (step_at column rows) pairs))) new (numbered_from (next + 1) (map (combined_at column rows) pairs))
-        (IsMade-after (made ++ row ∷ []) (map (step_at column rows) pairs) new (IsMade-last made row new count same)) more.are_made;
+          (IsMade-after (made ++ row ∷ []) (map (step_at column rows) pairs) new (IsMade-last made row new count same)) more.are_made;
     }

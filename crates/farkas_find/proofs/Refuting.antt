@@ -1,5 +1,5 @@
 -- A row that refutes the system has a valid derivation from the given rows, out of the steps that the stages made.
-use Rattle.std.proofs.Common.{◌≡◌, ℕ, zero, suc, ◌+◌, ◌<◌, ◌≤◌, ◌∙◌, sym, subst, ap, refl, arith, Bool, true, false, List, [], ◌∷◌, ◌++◌, length, get_or, map, All, ℤ, pos, Option, Some, None, ◌<ℤ◌, int_lt}
+use Rattle.std.proofs.Common.{◌≡◌, ℕ, zero, suc, ◌+◌, ◌<◌, ◌∙◌, sym, subst, refl, arith, true, List, [], ◌∷◌, ◌++◌, length, map, All, ℤ, pos, None, int_lt}
 use Rattle.std.proofs.Common.{length-append, get_or-append-add, append_assoc}
 use Rattle.std.proofs.lemmas.List.{length-map}
 use Rattle.farkas_find.proofs.Numbering.{length-numbered_from}
@@ -8,24 +8,20 @@ use Rattle.std.proofs.lemmas.Bool.{and_parts}
 use Rattle.std.proofs.lemmas.Bool.Decides.{Decides-int_eq}
 use Rattle.std.proofs.lemmas.List.Elements.{All-nil, All-cons, All-filter, All-append, All-get_or}
 use Rattle.std.proofs.lemmas.List.Quantifiers.{position-Some}
-use Rattle.std.specs.List.{list_all, range_with_len, items_where_true}
-use Rattle.std.specs.Ordering.{int_eq}
+use Rattle.std.specs.List.{list_all, range_with_len}
 use Rattle.az_lin.specs.Affine.{Affine}
 use Rattle.az_lin.specs.Combination.{HasWideEntries}
 use Rattle.az_lin.specs.Derivation.{IsStep, IsContradiction, IsDerivation, AllSteps}
 use Rattle.az_lin.specs.Derivation.{row_at as row_made, rows_after as made_after}
 use Rattle.az_lin.specs.declared.step.Step.{Step}
 use Rattle.farkas_find.specs.declared.numbered.Numbered.{Numbered}
-use Rattle.farkas_find.specs.declared.choice.Pair.{Pair}
 use Rattle.farkas_find.specs.declared.choice.Choice.{Choice}
 use Rattle.farkas_find.specs.declared.trail.Stage.{Stage}
-use Rattle.farkas_find.specs.declared.trail.Ended.{Ended}
 use Rattle.farkas_find.specs.declared.trail.Ended.TheVariants.{Refuted}
-use Rattle.farkas_find.specs.declared.trail.Finished.{Finished}
-use Rattle.farkas_find.specs.Tidying.{row_at, coef_at, is_zero, is_constant, is_refuting, rounded_rows, rounding_steps, contradiction_in, tidied, stays, strongest}
-use Rattle.farkas_find.specs.Combining.{IsPair, FitsAt, HaveWidth, combined_at, step_at, numbered_from}
+use Rattle.farkas_find.specs.Tidying.{row_at, coef_at, is_zero, is_constant, is_refuting, rounded_rows, rounding_steps, stays, strongest}
+use Rattle.farkas_find.specs.Combining.{combined_at, step_at, numbered_from}
 use Rattle.farkas_find.specs.Choosing.{free_columns}
-use Rattle.farkas_find.specs.Stages.{given_rows, first_stage, tidied_rows, tidied_stage, rows_without, pairs_for, next_rows, StaysWide, without_column, stage_after, Chooses, Follows, IsReached, EndsBy, Finishes}
+use Rattle.farkas_find.specs.Stages.{given_rows, first_stage, tidied_rows, tidied_stage, rows_without, pairs_for, next_rows, StaysWide, without_column, IsReached, EndsBy}
 use Rattle.farkas_find.specs.Needed.{derivation_of}
 use Rattle.farkas_find.specs.Nexts.{IsChoice}
 use Rattle.farkas_find.proofs.Keeping.{All-picked}
@@ -76,7 +72,7 @@ next-made : (column : ℕ) (made : List Affine) (steps : List Step) (rows new : 
 unfolding rows_without
 next-made column made steps rows new all others =
     All-append (IsMade (made_after made steps)) (rows_without column rows) new
-      (all_made_after made steps (rows_without column rows) (All-filter (λ it. is_zero (coef_at column it)) (IsMade made) rows all)) others
+    (all_made_after made steps (rows_without column rows) (All-filter (λ it. is_zero (coef_at column it)) (IsMade made) rows all)) others
 
 tidied-logged : (given : List Affine) (stage : Stage) → All HasWideEntries given → StageLogged given stage → StageLogged given (tidied_stage stage)
 tidied-logged given stage wide before =
@@ -137,10 +133,15 @@ refuting-contradicts it h =
     record { constant_alone = all_zero it.row.coefs parts.0; negative = grind (arith, ints, parts.1) }
 
 -- the last stage's refuting row, out of the log with the roundings of that stage
-pub refuted-derives : (width : ℕ) (given : List Affine) (s : ℕ) (stage : Stage) (number : ℕ) (steps : List Step) → All HasWideEntries given
+pub record IsRefuted (given : List Affine) (number : ℕ) (steps : List Step) : Type 0 where
+  pub inside : number < length given + length steps
+  pub good : AllSteps IsStep given steps
+  pub contradiction : IsContradiction (row_made (made_after given steps) number)
+
+pub refuted_by : (width : ℕ) (given : List Affine) (s : ℕ) (stage : Stage) (number : ℕ) (steps : List Step) → All HasWideEntries given
     → IsReached (free_columns None width) (given_rows given) s stage → EndsBy (free_columns None width) stage (Refuted number)
-    → steps ≡ stage.steps ++ rounding_steps stage.rows → IsDerivation IsStep given (derivation_of number (length given) steps)
-refuted-derives width given s stage number steps wide reached ends is =
+    → steps ≡ stage.steps ++ rounding_steps stage.rows → IsRefuted given number steps
+refuted_by width given s stage number steps wide reached ends is =
     let before = reached-logged width given s stage wide reached in
     let made = made_after given stage.steps in
     let count : stage.next ≡ length made = omega (arith, before.next_is, length-rows_after given stage.steps) in
@@ -151,7 +152,16 @@ refuted-derives width given s stage number steps wide reached ends is =
     let found = position-Some is_refuting (rounded_rows stage.next stage.rows) place nothing ends.1 in
     let it = row_at (rounded_rows stage.next stage.rows) place in
     let it_made : IsMade (made_after given (stage.steps ++ rounding_steps stage.rows)) it =
-      All-get_or (IsMade (made_after given (stage.steps ++ rounding_steps stage.rows))) (rounded_rows stage.next stage.rows) place nothing found.0 all.are_made in
-    let contradiction : IsContradiction (row_made (made_after given (stage.steps ++ rounding_steps stage.rows)) it.number) = subst IsContradiction (sym it_made.row) (refuting-contradicts it found.1) in
-    let inside : it.number < length given + length (stage.steps ++ rounding_steps stage.rows) = omega (arith, it_made.below, length-rows_after given (stage.steps ++ rounding_steps stage.rows)) in
-    rw (is, ends.2) (derivation_of-derives given it.number (stage.steps ++ rounding_steps stage.rows) wide inside all.good contradiction)
+    All-get_or (IsMade (made_after given (stage.steps ++ rounding_steps stage.rows))) (rounded_rows stage.next stage.rows) place nothing found.0 all.are_made in
+    let here : IsRefuted given it.number (stage.steps ++ rounding_steps stage.rows) = record {
+      inside = omega (arith, it_made.below, length-rows_after given (stage.steps ++ rounding_steps stage.rows));
+      good = all.good;
+      contradiction = subst IsContradiction (sym it_made.row) (refuting-contradicts it found.1);
+    } in
+    let P : List Step → Type 0 = IsRefuted given it.number in
+    let Q : ℕ → Type 0 = λ n. IsRefuted given n steps in
+    subst Q (sym ends.2) (subst P (sym is) here)
+
+pub refuted-derives : (given : List Affine) (number : ℕ) (steps : List Step) → All HasWideEntries given → IsRefuted given number steps
+    → IsDerivation IsStep given (derivation_of number (length given) steps)
+refuted-derives given number steps wide is = derivation_of-derives given number steps wide is.inside is.good is.contradiction

@@ -1,26 +1,26 @@
 -- Rows with small entries stay small for some stages.
-use Rattle.std.proofs.Common.{◌≡◌, ℕ, zero, suc, ◌+◌, ◌*◌, ◌/◌, ◌^◌, ◌<◌, ◌≤◌, ◌∙◌, sym, subst, ap, refl, arith, true, List, [], ◌∷◌, length, get_or, map, All, ℤ, pos, unsigned_abs, ◌+ℤ◌, ◌*ℤ◌, ◌<ℤ◌, nat_lt, Bool, cond, Option, add-one, count_by}
+use Rattle.std.proofs.Common.{◌≡◌, ℕ, zero, suc, ◌*◌, ◌/◌, ◌^◌, ◌<◌, ◌≤◌, ◌∙◌, sym, subst, refl, arith, true, List, [], ◌∷◌, length, get_or, map, All, ℤ, pos, unsigned_abs, ◌*ℤ◌, ◌<ℤ◌, nat_lt, Bool, cond, Option, add-one, count_by}
 use Rattle.std.proofs.lemmas.Int.{ints, unsigned_abs-mul}
 use Rattle.std.proofs.lemmas.Nat.{mul-le}
 use Rattle.std.proofs.Math.Nat.{div-le_self}
 use Rattle.std.proofs.lemmas.List.Elements.{All-nil, All-cons, All-head, All-tail, All-weaker, All-contains_itself}
 use Rattle.std.specs.Int.{int_div_euclid}
 use Rattle.std.specs.List.{AllZip}
-use Rattle.az_lin.specs.Affine.{Affine, IsWide}
-use Rattle.az_lin.specs.Combination.{IsWideSum, scaled_sum, scaled_sums, combination, quotient}
+use Rattle.az_lin.specs.Affine.{Affine}
+use Rattle.az_lin.specs.Combination.{IsWideSum, scaled_sum, scaled_sums}
 use Rattle.az_lin.specs.CommonDivisor.{gcd_of_all}
 use Rattle.az_lin.proofs.Integers.{unsigned_abs-floor}
 use Rattle.az_lin.proofs.Magnitude.{unsigned_abs-add}
 use Rattle.farkas_find.specs.declared.numbered.Numbered.{Numbered}
 use Rattle.farkas_find.specs.declared.choice.Pair.{Pair}
 use Rattle.farkas_find.specs.declared.choice.Choice.{Choice}
-use Rattle.farkas_find.specs.Tidying.{row_at, coef_at, is_rounded}
-use Rattle.farkas_find.specs.Combining.{IsPair, HaveWidth, Fits, FitsAt, combined, combined_at, sum_without, plus_weight, minus_weight, common_divisor}
+use Rattle.farkas_find.specs.Tidying.{row_at, coef_at}
+use Rattle.farkas_find.specs.Combining.{IsPair, HaveWidth, Fits, combined, sum_without, plus_weight, minus_weight, common_divisor}
 use Rattle.std.proofs.lemmas.List.Sums.{sum_by-cons}
 use Rattle.std.specs.List.{Contains}
 use Rattle.farkas_find.specs.declared.trail.Stage.{Stage}
 use Rattle.farkas_find.specs.Choosing.{free_columns, is_live}
-use Rattle.farkas_find.specs.Stages.{pairs_for, next_rows, rows_without, rows_after, StaysWide, HasFew, IsReached, Chooses, Follows, LeavesRangeAt, tidied_rows, tidied_stage}
+use Rattle.farkas_find.specs.Stages.{pairs_for, next_rows, rows_after, StaysWide, HasFew, IsReached, Chooses, LeavesRangeAt, tidied_rows, tidied_stage}
 use Rattle.farkas_find.specs.Nexts.{IsChoice}
 use Rattle.farkas_find.proofs.Chosen.{choice-is_choice, choice_of-Some}
 use Rattle.farkas_find.proofs.Gone.{IsGone-tidied}
@@ -47,8 +47,8 @@ divided_at_most : (most : ℕ) (d : ℤ) (zs : List ℤ) → pos 0 <ℤ d → Al
 divided_at_most most d [] positive small = All-nil (IsAtMost most)
 divided_at_most most d (z ∷ zs) positive small =
     All-cons (IsAtMost most) (int_div_euclid z d) (map (λ coef. int_div_euclid coef d) zs)
-      (omega (arith, unsigned_abs-floor z d positive, All-head (IsAtMost most) z zs small))
-      (divided_at_most most d zs positive (All-tail (IsAtMost most) z zs small))
+    (omega (arith, unsigned_abs-floor z d positive, All-head (IsAtMost most) z zs small))
+    (divided_at_most most d zs positive (All-tail (IsAtMost most) z zs small))
 
 pub positive_divisor : (n : ℕ) → nat_lt 1 n ≡ true → pos 0 <ℤ pos n
 positive_divisor zero h = cc
@@ -86,9 +86,10 @@ wide_sums_of_small : (m : ℕ) (xs : List ℤ) (n : ℕ) (ys : List ℤ) (most :
 wide_sums_of_small m [] n [] most same p q r s few = tt
 wide_sums_of_small m [] n (y ∷ ys) most same p q r s few = absurd (omega arith)
 wide_sums_of_small m (x ∷ xs) n [] most same p q r s few = absurd (omega arith)
-wide_sums_of_small m (x ∷ xs) n (y ∷ ys) most same p q r s few =
-    (wide_sum_of_small m x n y most p (All-head (IsAtMost most) x xs q) r (All-head (IsAtMost most) y ys s) few,
-     wide_sums_of_small m xs n ys most (omega arith) p (All-tail (IsAtMost most) x xs q) r (All-tail (IsAtMost most) y ys s) few)
+wide_sums_of_small m (x ∷ xs) n (y ∷ ys) most same p q r s few = (
+  wide_sum_of_small m x n y most p (All-head (IsAtMost most) x xs q) r (All-head (IsAtMost most) y ys s) few,
+  wide_sums_of_small m xs n ys most (omega arith) p (All-tail (IsAtMost most) x xs q) r (All-tail (IsAtMost most) y ys s) few,
+)
 
 sums_at_most : (m : ℕ) (xs : List ℤ) (n : ℕ) (ys : List ℤ) (most : ℕ) → m ≤ most → All (IsAtMost most) xs → n ≤ most → All (IsAtMost most) ys
     → All (IsAtMost (2 * (most * most))) (scaled_sums (pos m) xs (pos n) ys)
@@ -96,8 +97,8 @@ sums_at_most m [] n ys most p q r s = All-nil (IsAtMost (2 * (most * most)))
 sums_at_most m (x ∷ xs) n [] most p q r s = All-nil (IsAtMost (2 * (most * most)))
 sums_at_most m (x ∷ xs) n (y ∷ ys) most p q r s =
     All-cons (IsAtMost (2 * (most * most))) (scaled_sum (pos m) x (pos n) y) (scaled_sums (pos m) xs (pos n) ys)
-      (at_most_sum m x n y most p (All-head (IsAtMost most) x xs q) r (All-head (IsAtMost most) y ys s))
-      (sums_at_most m xs n ys most p (All-tail (IsAtMost most) x xs q) r (All-tail (IsAtMost most) y ys s))
+    (at_most_sum m x n y most p (All-head (IsAtMost most) x xs q) r (All-head (IsAtMost most) y ys s))
+    (sums_at_most m xs n ys most p (All-tail (IsAtMost most) x xs q) r (All-tail (IsAtMost most) y ys s))
 
 pub entry_at_most : (most : ℕ) (zs : List ℤ) (i : ℕ) → All (IsAtMost most) zs → unsigned_abs (get_or zs i (pos 0)) ≤ most
 entry_at_most most [] i small = omega arith
@@ -138,8 +139,8 @@ stays_wide_small width most choice rows widths pairs small few k d inside =
     let pair : Pair = get_or (pairs_for choice rows) k d in
     let is : IsPair choice.column rows pair = pairs k d inside in
     fits_small choice.column most (row_at rows pair.plus) (row_at rows pair.minus)
-      (widths pair.plus nothing is.plus_inside ∙ sym (widths pair.minus nothing is.minus_inside))
-      (small pair.plus nothing is.plus_inside) (small pair.minus nothing is.minus_inside) few
+    (widths pair.plus nothing is.plus_inside ∙ sym (widths pair.minus nothing is.minus_inside))
+    (small pair.plus nothing is.plus_inside) (small pair.minus nothing is.minus_inside) few
 
 grows : (most : ℕ) → 0 < most → most ≤ 2 * (most * most)
 grows zero h = absurd (omega arith)
@@ -150,12 +151,12 @@ pub next_small : (most : ℕ) (choice : Choice) (next : ℕ) (rows : List Number
 next_small most choice next rows positive pairs small =
     let nothing : Numbered = record { row = record { coefs = []; konst = pos 0 }; number = 0 } in
     let more : Every (IsSmall (2 * (most * most))) rows =
-      All-weaker (λ it. IsSmall most it.row) (λ it. IsSmall (2 * (most * most)) it.row) (λ it s. small-more most (2 * (most * most)) it.row (grows most positive) s) rows small in
+    All-weaker (λ it. IsSmall most it.row) (λ it. IsSmall (2 * (most * most)) it.row) (λ it s. small-more most (2 * (most * most)) it.row (grows most positive) s) rows small in
     Every-next_rows (IsSmall (2 * (most * most))) choice next rows (Every-without (IsSmall (2 * (most * most))) choice.column rows more)
-      (λ k d inside.
-        let pair : Pair = get_or (pairs_for choice rows) k d in
-        let is : IsPair choice.column rows pair = pairs k d inside in
-        combined_small choice.column most (row_at rows pair.plus) (row_at rows pair.minus) (small pair.plus nothing is.plus_inside) (small pair.minus nothing is.minus_inside))
+    (λ k d inside.
+    let pair : Pair = get_or (pairs_for choice rows) k d in
+    let is : IsPair choice.column rows pair = pairs k d inside in
+    combined_small choice.column most (row_at rows pair.plus) (row_at rows pair.minus) (small pair.plus nothing is.plus_inside) (small pair.minus nothing is.minus_inside))
 
 -- the greatest magnitude in a stage, from 3 in the first
 abbrev pub greatest_at : ℕ → ℕ
@@ -194,7 +195,7 @@ reached_small kept width given (suc s) stage widths few small reached =
     let is_choice : IsChoice width rows choice = choice-is_choice kept width rows choice follows.chooses.chosen in
     let pairs : All (IsPair choice.column rows) (pairs_for choice rows) = pairs_for-are_pairs width rows choice is_choice in
     let next : Every (IsSmall (greatest_at (suc s))) (rows_after choice earlier) =
-      next_small (greatest_at s) choice (tidied_stage earlier).next rows (greatest_at-positive s) pairs tidy in
+    next_small (greatest_at s) choice (tidied_stage earlier).next rows (greatest_at-positive s) pairs tidy in
     let P : List Numbered → Type 0 = Every (IsSmall (greatest_at (suc s))) in
     let Q : ℕ → Type 0 = λ n. Stands kept width given n stage in
     record {
@@ -218,9 +219,14 @@ chooses_early kept width given s stage choice stands chooses =
     let good = choice_of-Some (Contains columns) columns (tidied_rows stage) choice (All-contains_itself columns) chooses.chosen in
     let on : is_live choice.column stage.rows ≡ true = live_unless_gone choice.column stage.rows (λ gone. good.there (IsGone-tidied choice.column stage.next stage.rows gone)) in
     let some : 0 < count_live columns stage.rows =
-      count_some (λ column. is_live column stage.rows) columns good.may_go.0 choice.column good.may_go.1
-        (subst (λ (column : ℕ). is_live column stage.rows ≡ true) (sym good.may_go.2) on) in
+    count_some (λ column. is_live column stage.rows) columns good.may_go.0 choice.column good.may_go.1
+    (subst (λ (column : ℕ). is_live column stage.rows ≡ true) (sym good.may_go.2) on) in
     omega (arith, some, stands.live)
+
+-- the given rows are few where the first stage was reached
+pub few_given : (columns : List ℕ) (given : List Numbered) (s : ℕ) (stage : Stage) → IsReached columns given s stage → HasFew given
+few_given columns given zero stage reached = let Q : Stage → Type 0 = λ at. HasFew at.rows in subst Q reached.1 reached.0
+few_given columns given (suc s) stage reached = few_given columns given s reached.0 reached.1
 
 -- With at most five columns and entries of at most 3 no stage leaves the range.
 pub never_leaves : (kept : Option ℕ) (width : ℕ) (given : List Numbered) (s : ℕ) → width ≤ 5 → HaveWidth width given → Every (IsSmall 3) given
@@ -235,7 +241,3 @@ never_leaves kept width given s narrow widths small leaves =
     let pairs : All (IsPair leaves.choice.column rows) (pairs_for leaves.choice rows) = pairs_for-are_pairs width rows leaves.choice is_choice in
     let wide : HaveWidth width rows = HaveWidth-tidied width leaves.stage.next leaves.stage.rows all.stands.widths in
     leaves.leaves (stays_wide_small width (greatest_at s) leaves.choice rows wide pairs tidy (greatest_at-wide s (omega (arith, early, narrow))))
-  where
-    few_given : (columns : List ℕ) (given : List Numbered) (s : ℕ) (stage : Stage) → IsReached columns given s stage → HasFew given
-    few_given columns given zero stage reached = let Q : Stage → Type 0 = λ at. HasFew at.rows in subst Q reached.1 reached.0
-    few_given columns given (suc s) stage reached = few_given columns given s reached.0 reached.1

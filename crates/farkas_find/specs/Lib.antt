@@ -7,3 +7,4 @@ pub mod BackSubstitution
 pub mod Rows
 pub mod Answers
 pub mod Needed
+pub mod Verdict

@@ -31,10 +31,12 @@ mod stage;
 mod stored;
 mod trail;
 mod value;
+mod verdict;
 mod wide;
 mod within;
 
 pub use calls::{drop_column, range_rows, tidy};
 pub use fault::FindFault;
 pub use left::Left;
+pub use verdict::{Decision, decide};
 pub use wide::WideRow;

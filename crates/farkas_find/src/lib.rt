@@ -25,6 +25,8 @@ mod run;
 mod single;
 mod stage;
 mod stored;
+#[cfg(test)]
+mod tests;
 mod trail;
 mod wide;
 mod within;

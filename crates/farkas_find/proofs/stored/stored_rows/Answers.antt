@@ -1,4 +1,4 @@
-use Rattle.std.proofs.Common.{◌≡◌, arith, refl}
+use Rattle.std.proofs.Common.{arith, refl}
 use Rattle.farkas_find.specs.Stages.{given_rows}
 use Rattle.farkas_find.proofs.Numbering.{length-numbered_from}
 use Rattle.farkas_find.proofs.Given.{given_answers}

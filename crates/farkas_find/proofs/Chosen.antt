@@ -1,7 +1,7 @@
 -- The choice of a stage is one of a column that may go, that a row has, and of a pair of rows in it.
-use Rattle.std.proofs.Common.{◌≡◌, ℕ, zero, suc, ◌+◌, ◌*◌, ◌<◌, ◌≤◌, ap, refl, sym, ◌∙◌, subst, arith, Bool, true, false, cond, not, ◌&&◌, List, [], ◌∷◌, length, map, get_or, ℤ, pos, neg_ℤ, Option, Some, None, count_by, nat_lt}
+use Rattle.std.proofs.Common.{◌≡◌, ℕ, zero, suc, ◌+◌, ◌*◌, ◌<◌, refl, sym, ◌∙◌, subst, arith, Bool, true, false, cond, ◌&&◌, List, [], ◌∷◌, length, get_or, ℤ, pos, neg_ℤ, Option, Some, None, count_by, nat_lt}
 use Rattle.std.specs.Option.{option_or, option_map}
-use Rattle.std.specs.List.{All, filter, range_with_len, position, fold}
+use Rattle.std.specs.List.{All, range_with_len, position, fold}
 use Rattle.std.specs.Ordering.{int_eq}
 use Rattle.std.specs.Cmp.Lexicographic.{pointwise}
 use Rattle.std.proofs.lemmas.Int.{ints}
@@ -14,7 +14,7 @@ use Rattle.farkas_find.specs.declared.choice.Pair.{Pair}
 use Rattle.farkas_find.specs.declared.choice.Choice.{Choice}
 use Rattle.farkas_find.specs.Tidying.{row_at, coef_at, is_zero}
 use Rattle.farkas_find.specs.Combining.{is_positive, is_negative, IsPair}
-use Rattle.farkas_find.specs.Choosing.{count_with, first_of, is_negative_of, negative_place, oriented, pair_at, pair_in, choice_with, choice_by_pair, is_live, is_better, better_of, column_by_count, choice_of, is_free, free_columns}
+use Rattle.farkas_find.specs.Choosing.{count_with, first_of, is_negative_of, negative_place, oriented, pair_at, pair_in, choice_with, choice_by_pair, is_live, better_of, column_by_count, choice_of, is_free, free_columns}
 use Rattle.farkas_find.specs.Answers.{choice_in}
 use Rattle.farkas_find.specs.Nexts.{IsPairChoice, IsChoice}
 use Rattle.farkas_find.proofs.Paired.{inside_range, left_of_and, right_of_and}

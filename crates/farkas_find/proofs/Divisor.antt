@@ -5,7 +5,6 @@ use Rattle.std.proofs.lemmas.List.Elements.{All-head, All-tail}
 use Rattle.std.proofs.lemmas.Nat.Gcd.{le_of_dvd}
 use Rattle.std.proofs.Math.Nat.{eq-zero_of_zero-dvd}
 use Prim.Native.Nat.{◌∣◌}
-use Rattle.std.specs.Int.{IsGcd}
 use Rattle.az_lin.specs.Affine.{IsWide}
 use Rattle.az_lin.specs.CommonDivisor.{gcd_of, gcd_of_all, last_divisor}
 use Rattle.az_lin.proofs.DivisorLaws.{gcd_of-is_gcd}

@@ -1,6 +1,6 @@
 -- The first value over the places to come: past a place that gives none.
-use Rattle.std.proofs.Common.{◌≡◌, ℕ, ◌+◌, ◌<◌, ap, refl, sym, ◌∙◌, Bool, true, false, cond, List, [], ◌∷◌, Option, Some, None, is_some}
-use Rattle.std.specs.Option.{option_or, option_map}
+use Rattle.std.proofs.Common.{◌≡◌, ℕ, ◌+◌, ◌<◌, ap, refl, ◌∙◌, Bool, true, false, cond, ◌∷◌, Option, Some, None, is_some}
+use Rattle.std.specs.Option.{option_or}
 use Rattle.std.specs.List.{filter}
 use Rattle.farkas_find.specs.Choosing.{first_of}
 use Rattle.farkas_find.proofs.Places.{rest_from, rest_from-step}

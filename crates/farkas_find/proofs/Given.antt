@@ -1,5 +1,5 @@
 -- The rows that a call is given.
-use Rattle.std.proofs.Common.{◌≡◌, ℕ, ◌≤◌, sym, subst, arith, List, length, IfOk, IfErr, Result, Ok, Err}
+use Rattle.std.proofs.Common.{◌≡◌, sym, subst, List, IfOk, IfErr, Result, Ok, Err}
 use Rattle.std.specs.Global.{Vec}
 use Rattle.farkas_find.specs.declared.numbered.Numbered.{Numbered}
 use Rattle.farkas_find.specs.declared.fault.FindFault.{FindFault}

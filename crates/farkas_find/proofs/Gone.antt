@@ -1,5 +1,5 @@
 -- A column that no row has stays so, and the column that goes is one that no row of the next stage has.
-use Rattle.std.proofs.Common.{◌≡◌, ℕ, zero, suc, ◌+◌, ◌*◌, ◌/◌, ◌%◌, ◌<◌, ap, refl, sym, ◌∙◌, subst, arith, Bool, true, false, List, [], ◌∷◌, length, map, get_or, ℤ, pos, negsuc, unsigned_abs, ◌+ℤ◌, ◌*ℤ◌}
+use Rattle.std.proofs.Common.{◌≡◌, ℕ, zero, suc, ◌*◌, ◌/◌, ◌<◌, ap, refl, sym, ◌∙◌, subst, arith, true, List, [], ◌∷◌, length, map, get_or, ℤ, pos, negsuc, unsigned_abs}
 use Rattle.std.specs.List.{All, filter}
 use Rattle.std.specs.Int.{int_div_euclid}
 use Rattle.std.proofs.Math.ListN.{get_or-map}
@@ -9,14 +9,14 @@ use Rattle.std.proofs.lemmas.Bool.Decides.{Decides-int_eq}
 use Rattle.std.proofs.lemmas.Nat.Gcd.{mod-eq-zero_of_dvd}
 use Rattle.std.proofs.lemmas.List.Elements.{filter_passes}
 use Rattle.az_lin.specs.Affine.{Affine}
-use Rattle.az_lin.specs.Combination.{scaled_sum, scaled_sums, quotient}
+use Rattle.az_lin.specs.Combination.{scaled_sum, scaled_sums}
 use Rattle.az_lin.specs.CommonDivisor.{gcd_of, gcd_of_all}
 use Rattle.az_lin.proofs.DivisorLaws.{gcd_of-is_gcd}
 use Rattle.farkas_find.specs.declared.numbered.Numbered.{Numbered}
 use Rattle.farkas_find.specs.declared.choice.Pair.{Pair}
 use Rattle.farkas_find.specs.declared.choice.Choice.{Choice}
 use Rattle.farkas_find.specs.Tidying.{row_at, coef_at, is_zero, tidied}
-use Rattle.farkas_find.specs.Combining.{HaveWidth, IsPair, is_positive, is_negative, common_divisor, plus_weight, minus_weight, sum_without, combined, combined_at}
+use Rattle.farkas_find.specs.Combining.{HaveWidth, IsPair, is_positive, is_negative, plus_weight, minus_weight, sum_without, combined}
 use Rattle.farkas_find.specs.Stages.{rows_without, pairs_for, next_rows}
 use Rattle.farkas_find.proofs.Divisor.{gcd_of-positive}
 use Rattle.farkas_find.proofs.Keeping.{KeptByRounding, kept_by_rounded, Every-tidied, Every-next_rows, Every-without}

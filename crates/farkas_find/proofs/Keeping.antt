@@ -1,6 +1,6 @@
 -- What holds of every row of a stage, and of each row that rounding and combining make of them, holds in the next stage.
-use Rattle.std.proofs.Common.{◌≡◌, ℕ, suc, ◌+◌, ◌<◌, ◌≤◌, ap, refl, sym, ◌∙◌, subst, arith, Bool, true, false, cond, List, [], ◌∷◌, ◌++◌, length, map, get_or, ℤ, pos, length-append}
-use Rattle.std.specs.List.{All, filter, items_where_true, range_with_len}
+use Rattle.std.proofs.Common.{◌≡◌, ℕ, suc, ◌+◌, ◌≤◌, ap, refl, ◌∙◌, arith, Bool, true, false, cond, List, [], ◌∷◌, length, map, pos, length-append}
+use Rattle.std.specs.List.{All, items_where_true, range_with_len}
 use Rattle.std.proofs.lemmas.List.{length-map}
 use Rattle.farkas_find.proofs.Numbering.{length-numbered_from}
 use Rattle.std.proofs.lemmas.List.Elements.{All-nil, All-cons, All-append, All-map, All-filter, All-head, All-tail}
@@ -8,9 +8,8 @@ use Rattle.az_lin.specs.Affine.{Affine}
 use Rattle.az_lin.specs.Combination.{quotient}
 use Rattle.az_lin.specs.CommonDivisor.{gcd_of_all}
 use Rattle.farkas_find.specs.declared.numbered.Numbered.{Numbered}
-use Rattle.farkas_find.specs.declared.choice.Pair.{Pair}
 use Rattle.farkas_find.specs.declared.choice.Choice.{Choice}
-use Rattle.farkas_find.specs.Tidying.{row_at, coef_at, is_zero, is_rounded, rounded, rounded_rows, stays, strongest, tidied}
+use Rattle.farkas_find.specs.Tidying.{coef_at, is_zero, is_rounded, rounded, rounded_rows, stays, strongest, tidied}
 use Rattle.farkas_find.specs.Combining.{numbered_from, combined_at}
 use Rattle.farkas_find.specs.Stages.{rows_without, pairs_for, next_rows}
 

@@ -1,10 +1,10 @@
 -- The pairs of a stage: how many there are, and that each is a pair of rows of opposite signs.
-use Rattle.std.proofs.Common.{◌≡◌, ℕ, ◌+◌, ◌*◌, ◌<◌, ◌≤◌, ap, refl, sym, ◌∙◌, arith, Bool, true, false, cond, not, ◌&&◌, ◌||◌, List, [], ◌∷◌, ◌++◌, length, map, get_or, ℤ, pos, negsuc, count_by, zero, suc, nat_eq, length-append, subst, Option, Some, None}
-use Rattle.std.specs.List.{range_with_len, filter, flat_map, sum_by, All}
+use Rattle.std.proofs.Common.{◌≡◌, ℕ, ◌+◌, ◌*◌, ◌<◌, ap, refl, sym, ◌∙◌, arith, Bool, true, false, cond, not, ◌&&◌, ◌||◌, List, [], ◌∷◌, length, map, get_or, ℤ, pos, count_by, nat_eq, length-append, subst, Option, Some, None}
+use Rattle.std.specs.List.{range_with_len, filter, flat_map, All}
 use Rattle.std.proofs.lemmas.Int.{ints}
 use Rattle.std.proofs.lemmas.List.{length-map}
 use Rattle.std.proofs.lemmas.List.FromFn.{fill_by_all, get_or-range_with_len, length-range_with_len}
-use Rattle.std.proofs.lemmas.List.Elements.{All-nil, All-cons, All-append, All-map, All-filter, All-head, All-tail, filter_passes}
+use Rattle.std.proofs.lemmas.List.Elements.{All-nil, All-append, All-map, All-filter, All-head, All-tail, filter_passes}
 use Rattle.std.proofs.lemmas.List.Sums.{length-filter, sum_by-cons}
 use Rattle.std.proofs.lemmas.List.Concat.{flat_map-cons}
 use Rattle.std.proofs.lemmas.List.Filters.{length-filter_both}
@@ -14,7 +14,7 @@ use Rattle.farkas_find.specs.Tidying.{row_at, coef_at, is_zero}
 use Rattle.farkas_find.specs.Combining.{is_positive, is_negative, has_sign, places_where, pairs_of, all_pairs, is_other, partner, pairs_with, IsPair}
 use Rattle.farkas_find.specs.Choosing.{count_with}
 use Rattle.farkas_find.specs.declared.choice.Choice.{Choice}
-use Rattle.farkas_find.specs.Stages.{rows_without, rows_with, pairs_by, pairs_for}
+use Rattle.farkas_find.specs.Stages.{rows_without, pairs_by, pairs_for}
 use Rattle.farkas_find.specs.Nexts.{IsChoice, IsPairChoice}
 
 -- a list is what its places give

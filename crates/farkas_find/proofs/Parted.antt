@@ -1,5 +1,5 @@
 -- Rows with a column and rows without it: what one more row adds.
-use Rattle.std.proofs.Common.{◌≡◌, ap, refl, sym, ◌∙◌, Bool, true, false, not, cond, List, [], ◌∷◌, ◌++◌, ℕ, append-nil}
+use Rattle.std.proofs.Common.{◌≡◌, refl, sym, Bool, true, false, not, List, [], ◌∷◌, ◌++◌, ℕ, append-nil}
 use Rattle.std.specs.List.{filter}
 use Rattle.std.proofs.lemmas.List.Elements.{filter-append}
 use Rattle.farkas_find.specs.declared.numbered.Numbered.{Numbered}

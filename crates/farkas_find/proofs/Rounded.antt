@@ -1,5 +1,5 @@
 -- Rounding row by row: the rounded rows and the steps of a list are those of its parts.
-use Rattle.std.proofs.Common.{◌≡◌, ℕ, suc, ◌+◌, ◌≤◌, ap, refl, sym, ◌∙◌, Bool, true, false, cond, List, [], ◌∷◌, ◌++◌, length, arith, pos, ℤ, append_assoc, append-nil, length-append}
+use Rattle.std.proofs.Common.{◌≡◌, ℕ, suc, ◌+◌, ◌≤◌, ap, refl, ◌∙◌, true, false, cond, List, [], ◌∷◌, ◌++◌, length, arith, pos, ℤ, append_assoc, append-nil, length-append}
 use Rattle.az_lin.specs.Affine.{Affine}
 use Rattle.az_lin.specs.Combination.{quotient}
 use Rattle.az_lin.specs.CommonDivisor.{gcd_of_all}

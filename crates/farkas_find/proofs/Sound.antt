@@ -1,5 +1,5 @@
 -- A point that meets every row of a stage meets every row of the next, and no row that it meets refutes the system.
-use Rattle.std.proofs.Common.{◌≡◌, ℕ, zero, suc, ◌+◌, ◌<◌, ap, refl, sym, ◌∙◌, subst, arith, Bool, true, false, List, [], ◌∷◌, length, map, get_or, ℤ, pos, ◌*ℤ◌, ◌+ℤ◌, ◌≤ℤ◌, ◌<ℤ◌, unsigned_abs, Option, Some, None, nat_lt, int_lt, ◌&&◌, IfOk, IsSome, Result, Ok, Err}
+use Rattle.std.proofs.Common.{◌≡◌, ℕ, zero, suc, ◌+◌, ◌<◌, refl, sym, ◌∙◌, subst, arith, true, List, [], ◌∷◌, length, map, get_or, ℤ, pos, ◌+ℤ◌, ◌≤ℤ◌, ◌<ℤ◌, Option, Some, None, nat_lt, int_lt, IfOk, IsSome, Result, Ok, Err}
 use Rattle.std.specs.List.{All, list_all}
 use Rattle.std.proofs.lemmas.Int.{ints}
 use Rattle.std.proofs.lemmas.Bool.Decides.{nat_tests, Decides-int_eq}
@@ -7,17 +7,16 @@ use Rattle.std.proofs.lemmas.List.Elements.{All-map}
 use Rattle.std.proofs.lemmas.List.Quantifiers.{position-Some}
 use Rattle.az_lin.specs.Affine.{Affine, IsAtLeastZero, value_at, dot}
 use Rattle.az_lin.specs.CommonDivisor.{gcd_of_all}
-use Rattle.az_lin.specs.Combination.{combination, scaled_sum}
 use Rattle.az_lin.proofs.DivisorLaws.{gcd_of_all-is_gcd}
 use Rattle.az_lin.proofs.StepLaws.{value_at-combination, scaled_sum-nonneg, quotient-nonneg}
 use Rattle.farkas_find.specs.declared.numbered.Numbered.{Numbered}
 use Rattle.farkas_find.specs.declared.choice.Pair.{Pair}
 use Rattle.farkas_find.specs.declared.choice.Choice.{Choice}
 use Rattle.farkas_find.specs.declared.trail.Stage.{Stage}
-use Rattle.farkas_find.specs.Tidying.{rounding_steps, row_at, coef_at, is_zero, is_constant, is_refuting, is_rounded, rounded_rows, contradiction_in, tidied}
-use Rattle.farkas_find.specs.Combining.{HaveWidth, IsPair, plus_weight, minus_weight, sum_without, combined, combined_at, numbered_from}
+use Rattle.farkas_find.specs.Tidying.{rounding_steps, row_at, is_zero, is_constant, is_refuting, rounded_rows, contradiction_in, tidied}
+use Rattle.farkas_find.specs.Combining.{HaveWidth, IsPair, plus_weight, minus_weight, sum_without, combined}
 use Rattle.farkas_find.specs.Choosing.{free_columns}
-use Rattle.farkas_find.specs.Stages.{given_rows, first_stage, tidied_rows, pairs_for, next_rows, rows_after, stage_after, Follows, IsReached}
+use Rattle.farkas_find.specs.Stages.{given_rows, first_stage, tidied_rows, pairs_for, next_rows, rows_after, Follows, IsReached}
 use Rattle.farkas_find.proofs.Keeping.{KeptByRounding, kept_by_rounded, Every, Every-rounded_rows, Every-tidied, Every-next_rows, Every-without, Every-given}
 use Rattle.farkas_find.specs.declared.wide.WideRow.{WideRow}
 use Rattle.farkas_find.specs.declared.left.Left.{Left}

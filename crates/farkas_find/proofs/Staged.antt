@@ -1,24 +1,24 @@
 -- The stages: what each of them stands on, and that there are at most as many as there are columns.
-use Rattle.std.proofs.Common.{◌≡◌, ℕ, zero, suc, ◌+◌, ◌*◌, ◌<◌, ◌≤◌, ap, refl, sym, ◌∙◌, subst, arith, add-one, Bool, true, false, cond, List, [], ◌∷◌, length, get_or, ℤ, pos, Option, Some, count_by, nat_lt}
-use Rattle.std.specs.List.{All, Contains, filter, range_with_len}
+use Rattle.std.proofs.Common.{◌≡◌, ℕ, zero, suc, ◌+◌, ◌*◌, ◌<◌, ◌≤◌, ap, refl, sym, subst, arith, add-one, Bool, true, false, cond, List, [], ◌∷◌, length, get_or, ℤ, pos, Option, count_by, nat_lt}
+use Rattle.std.specs.List.{All, Contains, range_with_len}
 use Rattle.std.proofs.lemmas.Int.{ints}
 use Rattle.std.proofs.lemmas.Bool.Decides.{nat_tests}
 use Rattle.std.proofs.lemmas.List.Sums.{sum_by-cons, length-filter, count_by-le-length}
 use Rattle.std.proofs.lemmas.List.FromFn.{length-range_with_len}
-use Rattle.std.proofs.lemmas.List.Elements.{All-nil, All-cons, All-head, All-tail, All-contains_itself}
+use Rattle.std.proofs.lemmas.List.Elements.{All-nil, All-cons, All-contains_itself}
 use Rattle.farkas_find.specs.declared.numbered.Numbered.{Numbered}
 use Rattle.farkas_find.specs.declared.choice.Choice.{Choice}
 use Rattle.farkas_find.specs.declared.trail.Stage.{Stage}
-use Rattle.farkas_find.specs.Tidying.{coef_at, rounding_steps, tidied}
-use Rattle.farkas_find.specs.Combining.{HaveWidth, IsPair, has_sign, is_positive, is_negative}
+use Rattle.farkas_find.specs.Tidying.{coef_at, rounding_steps}
+use Rattle.farkas_find.specs.Combining.{HaveWidth, IsPair, is_positive, is_negative}
 use Rattle.farkas_find.specs.Choosing.{count_with, is_live, is_free, free_columns}
-use Rattle.farkas_find.specs.Stages.{HasFew, first_stage, tidied_rows, tidied_stage, pairs_for, next_rows, rows_after, without_column, stage_after, Follows, IsReached}
+use Rattle.farkas_find.specs.Stages.{HasFew, first_stage, tidied_rows, pairs_for, next_rows, rows_after, without_column, stage_after, Follows, IsReached}
 use Rattle.farkas_find.specs.Nexts.{IsChoice}
 use Rattle.farkas_find.proofs.Rounded.{length-rounding_steps}
-use Rattle.farkas_find.proofs.Keeping.{length-tidied, length-next_rows}
+use Rattle.farkas_find.proofs.Keeping.{length-next_rows}
 use Rattle.farkas_find.proofs.Paired.{pairs_for-are_pairs}
 use Rattle.farkas_find.proofs.Widths.{HaveWidth-tidied, HaveWidth-next_rows}
-use Rattle.farkas_find.proofs.Chosen.{IsGone, not_gone, choice-is_choice, choice_of-Some, free_columns-inside}
+use Rattle.farkas_find.proofs.Chosen.{IsGone, not_gone, choice-is_choice, choice_of-Some}
 use Rattle.farkas_find.proofs.Gone.{IsGone-tidied, IsGone-next_rows, IsGone-chosen}
 
 -- a column is live or gone

@@ -1,16 +1,16 @@
 -- Every stage has rows of one width.
-use Rattle.std.proofs.Common.{◌≡◌, ℕ, suc, ◌<◌, ap, refl, sym, ◌∙◌, arith, List, [], ◌∷◌, length, map, get_or, ℤ, pos}
+use Rattle.std.proofs.Common.{◌≡◌, ℕ, suc, ap, refl, sym, ◌∙◌, arith, List, [], ◌∷◌, length, get_or, ℤ, pos}
 use Rattle.std.specs.List.{All}
 use Rattle.std.specs.Int.{int_div_euclid}
 use Rattle.std.proofs.lemmas.List.{length-map}
 use Rattle.az_lin.specs.Affine.{Affine}
-use Rattle.az_lin.specs.Combination.{scaled_sums, quotient}
+use Rattle.az_lin.specs.Combination.{scaled_sums}
 use Rattle.az_lin.specs.CommonDivisor.{gcd_of_all}
 use Rattle.farkas_find.specs.declared.numbered.Numbered.{Numbered}
 use Rattle.farkas_find.specs.declared.choice.Pair.{Pair}
 use Rattle.farkas_find.specs.declared.choice.Choice.{Choice}
 use Rattle.farkas_find.specs.Tidying.{row_at, tidied}
-use Rattle.farkas_find.specs.Combining.{HaveWidth, IsPair, plus_weight, minus_weight, sum_without, combined, combined_at}
+use Rattle.farkas_find.specs.Combining.{HaveWidth, IsPair, plus_weight, minus_weight, sum_without, combined}
 use Rattle.farkas_find.specs.Stages.{pairs_for, next_rows}
 use Rattle.farkas_find.proofs.Keeping.{KeptByRounding, kept_by_rounded, Every-tidied, Every-next_rows, Every-without}
 

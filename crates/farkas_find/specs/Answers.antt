@@ -1,5 +1,5 @@
 -- What the calls answer.
-use Rattle.std.specs.Prelude.{◌≡◌, ℕ, ◌≤◌, ◌<◌, List, length, map, All, None, Some, IsSome, Result, Ok, Err, ℤ, ◌⊎◌}
+use Rattle.std.specs.Prelude.{◌≡◌, ℕ, List, length, map, All, None, Some, IsSome, Result, Ok, Err, ℤ, ◌⊎◌}
 use Rattle.az_lin.specs.Affine.{IsAtLeastZero}
 use Rattle.az_lin.specs.declared.limit.Limit.TheVariants.{Rows as TooManyRows}
 use Rattle.farkas_find.specs.Tidying.{row_at, rounded_rows, contradiction_in, tidied}

@@ -1,5 +1,5 @@
 -- Choosing the column that a stage eliminates, among the columns that may go.
-use Rattle.std.specs.Prelude.{ℕ, ◌+◌, ◌*◌, Bool, true, false, not, ◌&&◌, nat_eq, nat_lt, filter, cond, List, [], ◌∷◌, length, count_by, ℤ, neg_ℤ}
+use Rattle.std.specs.Prelude.{ℕ, ◌+◌, ◌*◌, Bool, true, false, not, ◌&&◌, nat_eq, nat_lt, filter, cond, List, [], ◌∷◌, length, count_by, neg_ℤ}
 use Rattle.std.specs.Prelude.{Option, Some, None}
 use Rattle.std.specs.Option.{option_map, option_or}
 use Rattle.std.specs.List.{range_with_len, position, fold}

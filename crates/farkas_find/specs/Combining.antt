@@ -1,5 +1,5 @@
 -- Combining: a row with a positive and a row with a negative coefficient in a column give a row without that column.
-use Rattle.std.specs.Prelude.{◌≡◌, ℕ, zero, suc, ◌+◌, ◌<◌, ◌/◌, Bool, true, false, not, ◌&&◌, ◌||◌, nat_eq, nat_lt, cond, List, [], ◌∷◌, ◌++◌, length, map, filter, All}
+use Rattle.std.specs.Prelude.{◌≡◌, ℕ, zero, suc, ◌+◌, ◌<◌, ◌/◌, Bool, true, false, not, ◌&&◌, ◌||◌, nat_eq, cond, List, [], ◌∷◌, length, map, filter, All}
 use Rattle.std.specs.Prelude.{ℤ, pos, int_lt, unsigned_abs}
 use Rattle.std.specs.List.{range_with_len, flat_map}
 use Rattle.az_lin.specs.Affine.{Affine}

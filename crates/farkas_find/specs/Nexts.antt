@@ -5,7 +5,7 @@ use Rattle.az_lin.specs.declared.limit.Limit.TheVariants.{Rows as TooManyRows}
 use Rattle.farkas_find.specs.Combining.{IsPair}
 use Rattle.farkas_find.specs.Choosing.{choice_of}
 use Rattle.farkas_find.specs.Tidying.{rounding_steps}
-use Rattle.farkas_find.specs.Stages.{HasFew, HasMany, tidied_rows, pairs_for, next_rows, rows_after, rows_with, StaysWide, without_column, Chooses, Follows, EndsBy, Finishes, LeavesRangeAt, PassesLimit}
+use Rattle.farkas_find.specs.Stages.{HasFew, HasMany, tidied_rows, next_rows, rows_after, rows_with, StaysWide, without_column, Chooses, Follows, EndsBy, Finishes, LeavesRangeAt, PassesLimit}
 use Rattle.farkas_find.specs.declared.numbered.Numbered.{Numbered}
 use Rattle.farkas_find.specs.declared.choice.Pair.{Pair}
 use Rattle.farkas_find.specs.declared.choice.Choice.{Choice}

@@ -1,5 +1,5 @@
 -- Rows as callers hand them in and take them out.
-use Rattle.std.specs.Prelude.{◌≡◌, ℕ, List, length, map, All}
+use Rattle.std.specs.Prelude.{◌≡◌, List, length, All}
 use Rattle.az_lin.specs.Affine.{Affine}
 use Rattle.az_lin.specs.Combination.{HasWideEntries}
 use Rattle.farkas_find.specs.declared.wide.WideRow.{WideRow}

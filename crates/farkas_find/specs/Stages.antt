@@ -2,7 +2,6 @@
 -- The next stage has the rows without the column, and then the rows that pairs of the others give.
 use Rattle.std.specs.Prelude.{◌≡◌, ℕ, zero, suc, ◌+◌, ◌<◌, ◌≤◌, not, List, [], ◌∷◌, ◌++◌, length, map, filter, All, Option, Some, None, ◌⊎◌}
 use Rattle.az_lin.specs.Affine.{Affine}
-use Rattle.az_lin.specs.declared.step.Step.{Step}
 use Rattle.farkas_find.specs.Tidying.{row_at, coef_at, is_zero, rounded_rows, rounding_steps, contradiction_in, tidied}
 use Rattle.farkas_find.specs.Combining.{all_pairs, pairs_with, combined_at, step_at, FitsAt, numbered_from}
 use Rattle.farkas_find.specs.Choosing.{choice_of}

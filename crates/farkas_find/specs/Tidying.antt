@@ -1,7 +1,7 @@
 -- Tidying, with which a stage of the elimination begins. Rows carry the numbers by which steps name them.
 -- First each row is rounded. Then a contradiction is looked for. Then the rows that say nothing are left out: rows
 -- without a coefficient, and of rows with the same coefficients all but the strongest.
-use Rattle.std.specs.Prelude.{ℕ, suc, ◌+◌, Bool, not, ◌&&◌, nat_lt, cond, List, [], ◌∷◌, length, map, take, drop, Option}
+use Rattle.std.specs.Prelude.{ℕ, ◌+◌, Bool, not, ◌&&◌, nat_lt, cond, List, [], ◌∷◌, length, map, take, drop, Option}
 use Rattle.std.specs.Prelude.{ℤ, pos, int_lt, int_le, slice_index_or}
 use Rattle.std.specs.List.{list_any, list_all, position, range_with_len, items_where_true}
 use Rattle.std.specs.Ordering.{int_eq}

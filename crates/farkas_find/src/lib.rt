@@ -29,6 +29,8 @@ mod run;
 mod single;
 mod stage;
 mod stored;
+#[cfg(test)]
+mod tests;
 mod trail;
 mod value;
 mod verdict;

@@ -1,4 +1,4 @@
-use Rattle.std.proofs.Common.{◌≡◌, ◌∙◌, ap, sym, subst, ℕ, List, length, Some}
+use Rattle.std.proofs.Common.{◌≡◌, ◌∙◌, ap, sym, subst, ℕ, List, Some}
 use Rattle.std.specs.List.{All}
 use Rattle.az_lin.specs.Affine.{Affine}
 use Rattle.farkas_find.specs.declared.numbered.Numbered.{Numbered}

@@ -1,6 +1,5 @@
-use Rattle.std.proofs.Common.{◌≡◌, ◌<◌, ℕ, arith, length, ap, sym, ◌∙◌, None, Some, Option, is_some, false}
+use Rattle.std.proofs.Common.{◌≡◌, ap, sym, ◌∙◌, None, Some}
 use Rattle.std.specs.Option.{option_map}
-use Rattle.farkas_find.specs.declared.choice.Choice.{Choice}
 use Rattle.farkas_find.specs.Choosing.{pair_in, choice_with, is_free}
 use Rattle.farkas_find.proofs.Firsts.{none_of, first_of-past_kept, first_of-past_left}
 use Rattle.farkas_find.proofs.choose.choice_by_pair.Goals as goal

@@ -1,6 +1,5 @@
-use Rattle.std.proofs.Common.{◌≡◌, Some}
+use Rattle.std.proofs.Common.{◌≡◌}
 use Rattle.std.specs.List.{range_with_len, filter}
-use Rattle.std.specs.Option.{option_map}
 use Rattle.farkas_find.specs.Choosing.{first_of, choice_with, is_free}
 use Rattle.farkas_find.proofs.Places.{rest_from}
 use Rattle.farkas_find.proofs.choose.choice_by_pair.Given as goal

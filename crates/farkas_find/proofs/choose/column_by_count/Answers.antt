@@ -1,6 +1,6 @@
-use Rattle.std.proofs.Common.{◌≡◌, ◌+◌, ℕ, Option, None, ap, sym, ◌∙◌, true, false}
+use Rattle.std.proofs.Common.{◌+◌, ap, sym, ◌∙◌}
 use Rattle.std.specs.List.{filter, fold}
-use Rattle.farkas_find.specs.Choosing.{better_of, is_free, count_of_best}
+use Rattle.farkas_find.specs.Choosing.{better_of, is_free}
 use Rattle.farkas_find.proofs.Places.{rest_from, fold_yes, fold_no}
 use Rattle.farkas_find.proofs.choose.column_by_count.Goals as goal
 use Rattle.farkas_find.proofs.choose.column_by_count.Goals.{then-is_free, else-is_free}

@@ -1,4 +1,4 @@
-use Rattle.std.proofs.Common.{◌≡◌, ◌<◌, ℕ, arith, length, ap, sym, ◌∙◌, None, Option, is_some, false}
+use Rattle.std.proofs.Common.{◌≡◌, arith, length, ap, sym, ◌∙◌, None}
 use Rattle.std.proofs.lemmas.List.FromFn.{length-map-range_with_len, get_or-map-range_with_len}
 use Rattle.farkas_find.specs.Choosing.{negative_place, pair_at}
 use Rattle.farkas_find.proofs.Firsts.{none_of, first_of-past}

@@ -1,10 +1,10 @@
-use Rattle.std.proofs.Common.{◌≡◌, ◌≢◌, ℕ, ℤ, zero, suc, negsuc, ◌<◌, ◌≤◌, ◌^◌, ◌/◌, arith, pos, unsigned_abs, to_z, of_z, refl, ap, ◌∙◌, sym}
+use Rattle.std.proofs.Common.{◌≡◌, ◌≢◌, ℕ, ℤ, zero, suc, negsuc, ◌<◌, ◌^◌, ◌/◌, arith, pos, unsigned_abs, to_z, of_z, refl, ap, ◌∙◌}
 use Rattle.std.specs.Int.{w128}
-use Rattle.std.proofs.lemmas.Int.{ints, to_z-of_z, to_z_pos, fits_signed_from_abs}
+use Rattle.std.proofs.lemmas.Int.{to_z-of_z, to_z_pos, fits_signed_from_abs}
 use Rattle.std.proofs.Math.Nat.{div-le_self}
 use Rattle.az_lin.specs.CommonDivisor.{gcd_of}
 use Rattle.farkas_find.specs.Tidying.{coef_at}
-use Rattle.farkas_find.specs.Combining.{plus_weight, minus_weight, common_divisor}
+use Rattle.farkas_find.specs.Combining.{plus_weight, minus_weight}
 use Rattle.farkas_find.proofs.Divisor.{gcd_of-positive}
 use Rattle.farkas_find.proofs.combine.weights.Goals as goal
 

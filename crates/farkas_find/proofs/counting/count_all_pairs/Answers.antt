@@ -1,6 +1,3 @@
-use Rattle.std.proofs.Common.{arith, sym, ◌∙◌, ◌*◌, ap}
-use Rattle.farkas_find.specs.Choosing.{count_with}
-use Rattle.farkas_find.specs.Combining.{all_pairs}
 use Rattle.farkas_find.proofs.Paired.{length-all_pairs}
 use Rattle.farkas_find.proofs.counting.count_all_pairs.Goals as goal
 

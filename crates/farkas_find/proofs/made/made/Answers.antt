@@ -1,8 +1,8 @@
-use Rattle.std.proofs.Common.{◌≡◌, ◌<◌, ◌+◌, arith, length, map, take, sym, ◌∙◌, ap, append-nil, slice_index_or, ◌++◌, ◌∷◌, []}
+use Rattle.std.proofs.Common.{◌≡◌, arith, length, take, sym, ◌∙◌, append-nil, slice_index_or, ◌++◌, ◌∷◌, []}
 use Rattle.std.proofs.lemmas.List.{take_more, length-take}
 use Rattle.std.proofs.lemmas.List.Elements.{All-nil, All-more}
 use Rattle.farkas_find.specs.declared.choice.Pair.{Pair}
-use Rattle.farkas_find.specs.Combining.{FitsAt, combined_at, step_at, numbered_from}
+use Rattle.farkas_find.specs.Combining.{FitsAt, combined_at, step_at}
 use Rattle.farkas_find.proofs.Numbering.{numbered_from-nil, makes_one, step_more}
 use Rattle.farkas_find.proofs.made.made.Goals as goal
 

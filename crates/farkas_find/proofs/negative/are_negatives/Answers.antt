@@ -1,4 +1,4 @@
-use Rattle.std.proofs.Common.{◌≡◌, ◌+◌, ◌<◌, ◌&&◌, ap, arith, Bool, true, length, get_or, drop, drop-cons, List, ℕ, ℤ, pos, neg_ℤ, sym, ◌∙◌, add-one, refl}
+use Rattle.std.proofs.Common.{◌≡◌, ◌+◌, ◌<◌, arith, Bool, true, length, get_or, drop, drop-cons, List, ℕ, ℤ, pos, neg_ℤ, sym, ◌∙◌, add-one, refl}
 use Rattle.std.specs.Ordering.{int_eq}
 use Rattle.std.specs.Cmp.Lexicographic.{pointwise}
 use Rattle.farkas_find.proofs.negative.are_negatives.Goals as goal

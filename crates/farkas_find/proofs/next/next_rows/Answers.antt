@@ -1,8 +1,8 @@
-use Rattle.std.proofs.Common.{◌≡◌, ℕ, ◌+◌, ◌-◌, ◌<◌, ◌≤◌, ◌∙◌, sym, ap, arith, length, map, ◌++◌, List, [], ◌∷◌, length-append, refl}
+use Rattle.std.proofs.Common.{◌≡◌, ℕ, ◌-◌, ◌<◌, ◌≤◌, ◌∙◌, ap, arith, length, map, ◌++◌, List, refl}
 use Rattle.farkas_find.specs.declared.numbered.Numbered.{Numbered}
 use Rattle.farkas_find.specs.declared.choice.Choice.{Choice}
-use Rattle.farkas_find.specs.Combining.{numbered_from, combined_at, IsPair}
-use Rattle.farkas_find.specs.Stages.{HasFew, HasMany, rows_without, pairs_for, next_rows, StaysWide}
+use Rattle.farkas_find.specs.Combining.{numbered_from, combined_at}
+use Rattle.farkas_find.specs.Stages.{HasFew, rows_without, pairs_for, next_rows}
 use Rattle.farkas_find.proofs.Keeping.{length-next_rows}
 use Rattle.farkas_find.proofs.Paired.{pairs_for-are_pairs}
 use Rattle.farkas_find.proofs.next.next_rows.Goals as goal

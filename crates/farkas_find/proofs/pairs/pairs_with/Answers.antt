@@ -1,4 +1,4 @@
-use Rattle.std.proofs.Common.{◌≡◌, ℕ, Bool, true, false, length, ap, ◌∙◌, sym, map}
+use Rattle.std.proofs.Common.{length, ◌∙◌, sym, map}
 use Rattle.std.specs.List.{filter, range_with_len}
 use Rattle.farkas_find.specs.Combining.{partner, is_other}
 use Rattle.farkas_find.proofs.Places.{gives_yes, gives_no}

@@ -1,4 +1,4 @@
-use Rattle.std.proofs.Common.{◌≡◌, ℕ, Bool, true, false, length, ap, ◌∙◌, sym}
+use Rattle.std.proofs.Common.{◌≡◌, ℕ, length, ap, ◌∙◌, sym}
 use Rattle.farkas_find.specs.Tidying.{row_at, coef_at}
 use Rattle.farkas_find.specs.Combining.{has_sign, places_where}
 use Rattle.farkas_find.proofs.Places.{kept_yes, kept_no}

@@ -1,7 +1,7 @@
-use Rattle.std.proofs.Common.{◌≡◌, ◌<◌, ◌^◌, arith, pos, ap, sym, ◌∙◌, true, to_z}
+use Rattle.std.proofs.Common.{◌≡◌, ◌<◌, ◌^◌, arith, pos, ap, ◌∙◌, true}
 use Rattle.std.specs.Int.{w128}
 use Rattle.std.proofs.lemmas.Grind.{common_steps}
-use Rattle.std.proofs.lemmas.Int.{ints, fits_signed_from_abs, to_z_pos}
+use Rattle.std.proofs.lemmas.Int.{fits_signed_from_abs, to_z_pos}
 use Rattle.az_lin.specs.CommonDivisor.{gcd_of_all}
 use Rattle.farkas_find.specs.Tidying.{is_rounded}
 use Rattle.farkas_find.proofs.Divisor.{gcd_of_all-wide}

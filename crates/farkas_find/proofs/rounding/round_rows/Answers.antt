@@ -1,11 +1,10 @@
-use Rattle.std.proofs.Common.{rules, ◌≡◌, ◌++◌, ◌∷◌, [], ◌+◌, ◌<◌, ◌≤◌, arith, length, true, false, sym, ◌∙◌, append-nil, ap, pos, FitsSigned}
+use Rattle.std.proofs.Common.{rules, ◌≡◌, ◌++◌, ◌∷◌, [], ◌<◌, ◌≤◌, arith, length, sym, ◌∙◌, append-nil, pos, FitsSigned}
 use Rattle.std.specs.Int.{w128}
 use Rattle.std.proofs.lemmas.Int.{to_z-of_z, fits_signed_from_abs}
 use Rattle.az_lin.specs.Combination.{quotient}
-use Rattle.az_lin.specs.declared.step.Step.{Step}
 use Rattle.std.proofs.lemmas.Iterator.Adapters.{YieldsList-from_vec}
 use Rattle.std.proofs.lemmas.Iterator.Consumers.{YieldsList-turn}
-use Rattle.farkas_find.specs.Tidying.{rounded_rows, rounding_steps}
+use Rattle.farkas_find.specs.Tidying.{rounding_steps}
 use Rattle.farkas_find.proofs.Rounded.{rounds_one, steps_one, counts_one, leaves_one, same_steps, rounded_rows-nil, rounding_steps-nil, length-rounding_steps}
 use Rattle.farkas_find.proofs.rounding.round_rows.Goals as goal
 

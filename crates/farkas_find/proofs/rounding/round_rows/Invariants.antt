@@ -1,4 +1,4 @@
-use Rattle.std.proofs.Common.{◌≡◌, ◌+◌, ◌++◌, ◌≤◌, length}
+use Rattle.std.proofs.Common.{◌≡◌, ◌+◌, ◌++◌, length}
 use Rattle.farkas_find.specs.Tidying.{rounded_rows, rounding_steps}
 use Rattle.farkas_find.proofs.rounding.round_rows.Given as goal
 

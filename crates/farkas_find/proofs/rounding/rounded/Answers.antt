@@ -1,4 +1,4 @@
-use Rattle.std.proofs.Common.{◌≡◌, arith, sym, ◌∙◌, pos, ap, FitsSigned}
+use Rattle.std.proofs.Common.{◌≡◌, sym, ◌∙◌, ap, FitsSigned}
 use Rattle.std.specs.Int.{w128}
 use Rattle.std.proofs.lemmas.Int.{to_z-of_z, fits_signed_from_abs}
 use Rattle.az_lin.specs.Combination.{quotient}

@@ -1,4 +1,4 @@
-use Rattle.std.proofs.Common.{◌≡◌, arith, refl, map}
+use Rattle.std.proofs.Common.{arith, refl, map}
 use Rattle.std.proofs.lemmas.List.{length-map}
 use Rattle.farkas_find.specs.Rows.{affine_of}
 use Rattle.farkas_find.specs.Stages.{given_rows}

@@ -1,4 +1,4 @@
-use Rattle.std.proofs.Common.{◌≡◌, ◌∙◌, sym, ap, Some}
+use Rattle.std.proofs.Common.{◌≡◌, ◌∙◌, sym, Some}
 use Rattle.farkas_find.specs.Choosing.{choice_of, free_columns}
 use Rattle.farkas_find.proofs.Chosen.{choice-is_choice}
 use Rattle.farkas_find.proofs.trail.Stage.choose_column.Goals as goal

@@ -1,4 +1,4 @@
-use Rattle.std.proofs.Common.{◌≡◌, ℕ, ◌+◌, ◌-◌, ◌<◌, ◌≤◌, ◌^◌, ◌++◌, ◌∙◌, sym, ap, arith, rules, List, [], ◌∷◌, length, map, length-append, refl}
+use Rattle.std.proofs.Common.{◌≡◌, ℕ, ◌+◌, ◌-◌, ◌<◌, ◌≤◌, ◌^◌, ◌++◌, ◌∙◌, ap, arith, rules, List, [], ◌∷◌, length, map, length-append, refl}
 use Rattle.std.proofs.lemmas.List.{length-map}
 use Rattle.az_lin.specs.declared.step.Step.{Step}
 use Rattle.farkas_find.specs.declared.numbered.Numbered.{Numbered}
@@ -7,7 +7,6 @@ use Rattle.farkas_find.specs.declared.trail.Stage.{Stage}
 use Rattle.farkas_find.specs.declared.trail.Eliminated.{Eliminated}
 use Rattle.farkas_find.specs.Combining.{step_at}
 use Rattle.farkas_find.specs.Stages.{HasFew, pairs_for, next_rows, rows_with, without_column}
-use Rattle.farkas_find.specs.Nexts.{IsNext}
 use Rattle.farkas_find.proofs.Keeping.{length-next_rows}
 use Rattle.farkas_find.proofs.trail.Stage.without_column.Goals as goal
 

@@ -18,11 +18,11 @@ width_of_stored width rows given all is =
 
 pub range_given-requires-clause-widths : goal.range_given-requires-clause-widths
 range_given-requires-clause-widths c =
-    rw c.width.ensures (width_of_stored c.args.system.now.width c.rows.result.now c.in_ok-given.given.items c.rows.ensures.widths c.in_ok-given.ensures.1)
+    rw c.width.ensures (width_of_stored c.args.system.now.width c.rows.result.now c.in_ok-given.given.items c.rows.ensures.widths c.in_ok-given.ensures.answer.1)
 
 pub returns-clause-exact : goal.returns-clause-exact
 returns-clause-exact c =
-    let is : c.in_ok-given.given.items ≡ given_rows c.args.system.now.rows = c.in_ok-given.ensures.1 ∙ ap given_rows c.rows.ensures.value in
+    let is : c.in_ok-given.given.items ≡ given_rows c.args.system.now.rows = c.in_ok-given.ensures.answer.1 ∙ ap given_rows c.rows.ensures.value in
     let P : List Numbered → Type 0 = λ given. RangeAnswers (free_columns (Some c.args.column) c.args.system.now.width) given c.range_given.result in
     let W : ℕ → Type 0 = λ width. RangeAnswers (free_columns (Some c.args.column) width) c.in_ok-given.given.items c.range_given.result in
     subst P is (subst W c.width.ensures c.range_given.ensures)
@@ -30,9 +30,9 @@ returns-clause-exact c =
 pub returns-clause-sound : goal.returns-clause-sound
 returns-clause-sound c =
     let system = c.args.system.now in
-    let is : c.in_ok-given.given.items ≡ given_rows system.rows = c.in_ok-given.ensures.1 ∙ ap given_rows c.rows.ensures.value in
+    let is : c.in_ok-given.given.items ≡ given_rows system.rows = c.in_ok-given.ensures.answer.1 ∙ ap given_rows c.rows.ensures.value in
     let P : List Numbered → Type 0 = λ given. RangeAnswers (free_columns (Some c.args.column) system.width) given c.range_given.result in
     let W : ℕ → Type 0 = λ width. RangeAnswers (free_columns (Some c.args.column) width) c.in_ok-given.given.items c.range_given.result in
     let V : List Numbered → Type 0 = HaveWidth system.width in
-    let widths : HaveWidth system.width c.in_ok-given.given.items = width_of_stored system.width c.rows.result.now c.in_ok-given.given.items c.rows.ensures.widths c.in_ok-given.ensures.1 in
+    let widths : HaveWidth system.width c.in_ok-given.given.items = width_of_stored system.width c.rows.result.now c.in_ok-given.given.items c.rows.ensures.widths c.in_ok-given.ensures.answer.1 in
     λ z. range-sound z (Some c.args.column) system.width system.rows c.range_given.result (subst V is widths) (subst P is (subst W c.width.ensures c.range_given.ensures))

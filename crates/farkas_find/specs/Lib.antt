@@ -1,0 +1,10 @@
+pub mod Tidying
+pub mod Combining
+pub mod Choosing
+pub mod Stages
+pub mod Nexts
+pub mod BackSubstitution
+pub mod Rows
+pub mod Answers
+pub mod Needed
+pub mod Verdict

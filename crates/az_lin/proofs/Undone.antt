@@ -7,7 +7,7 @@ use Rattle.std.proofs.lemmas.Nat.Gcd.{dvd_trans, dvd_refl}
 use Rattle.std.proofs.Math.Nat.{mul_assoc, dvd-mul_left, dvd-mul_right, mul-div_cancel', div-mul_cancel}
 use Rattle.std.proofs.Math.Seq.{drop-cons, take-append_seam, drop-append_seam}
 use Rattle.std.proofs.Math.ListN.{drop_of_length-le}
-use Rattle.std.proofs.lemmas.List.{length-map, length-append, length-take-le, length-drop, take-append-drop, get_or-take, take_all}
+use Rattle.std.proofs.lemmas.List.{length-map, length-take-le, length-drop, take-append-drop, get_or-take, take_all}
 use Rattle.std.proofs.lemmas.List.FromFn.{fill_by_all, length-map-range_with_len}
 use Rattle.std.proofs.lemmas.List.Elements.{All-head, All-tail, All-nil, All-cons, All-append, All-weaker}
 use Rattle.std.specs.Int.{int_div_euclid}

@@ -2,10 +2,9 @@
 use Rattle.std.specs.Prelude.{◌≡◌, ◌≢◌, ◌<◌, ◌^◌, ℕ, zero, suc, List, [], ◌∷◌, length, take, drop, map, All, ℤ, pos, ◌*ℤ◌, ◌<ℤ◌, Result, Ok, Err}
 use Rattle.az_lin.specs.Affine.{Affine, AffineMap, IsWide, dot}
 use Rattle.az_lin.specs.Substitution.{HasEntryRows}
-use Rattle.az_lin.specs.Inversion.{Tableau, start, final, ReducesWide, kernel_number, kernel_vector, inverse_denominator, inverse_numerators, inverse_map}
+use Rattle.az_lin.specs.Inversion.{Tableau, start, final, ReducesWide, kernel_vector, inverse_denominator, inverse_numerators, inverse_map}
 use Rattle.az_lin.specs.declared.fault.LinFault.{LinFault}
 use Rattle.az_lin.specs.declared.fault.LinFault.TheVariants.{Entry, NoInverse, Overflow, Memory}
-use Rattle.az_lin.specs.declared.fault.NoInverse.{NoInverse as Refusal}
 use Rattle.az_lin.specs.declared.fault.NoInverse.TheVariants.{Kernel, Rational}
 
 -- the numbers that are read off at the end are in range: those of the kernel vector where a row is left, and else the

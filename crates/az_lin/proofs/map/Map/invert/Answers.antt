@@ -1,8 +1,7 @@
-use Rattle.std.proofs.Common.{◌≡◌, ◌+◌, ◌*◌, ◌<◌, ◌∙◌, [], sym, ap, subst, ℕ, pos, length, All, List, Err, to_z, of_z, false, true, arith, rules}
+use Rattle.std.proofs.Common.{◌≡◌, ◌+◌, ◌<◌, ◌∙◌, sym, ap, subst, ℕ, length, All, List, Err, to_z, of_z, arith, rules}
 use Rattle.std.proofs.lemmas.Bool.{false≢true}
-use Rattle.std.proofs.lemmas.List.Elements.{All-same}
 use Rattle.az_lin.specs.Affine.{Affine, HasWidth}
-use Rattle.az_lin.specs.Inversion.{Tableau, HavePivots, final, inverse_numerators}
+use Rattle.az_lin.specs.Inversion.{Tableau, HavePivots, inverse_numerators}
 use Rattle.az_lin.proofs.InversionEnd.{final_sound, final_pivots, rest_some, rest_none, IsSound, length-inverse_numerators}
 use Rattle.az_lin.specs.InversionAnswer.{IsInversion}
 use Rattle.az_lin.proofs.Undone.{ok_undoes, rational_undoes}

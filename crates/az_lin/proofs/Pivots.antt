@@ -29,7 +29,7 @@ by_below i zero f g = g (omega arith)
 by_below zero (suc k) f g = f (omega arith)
 by_below (suc i) (suc k) f g = by_below i k (λ h. f (omega (arith, h))) (λ h. g (omega (arith, h)))
 
-by_last : {P : Type 0} (i k : ℕ) → i < suc k → (i < k → P) → (i ≡ k → P) → P
+pub by_last : {P : Type 0} (i k : ℕ) → i < suc k → (i < k → P) → (i ≡ k → P) → P
 by_last i k h f g = by_below i k f (λ past. g (omega (arith, h, past)))
 
 -- the divisor of a row is positive and divides its entries

@@ -81,7 +81,7 @@ dot-append [] ys (z ∷ zs) ws h = absurd (omega arith)
 dot-append (x ∷ xs) ys [] ws h = absurd (omega arith)
 dot-append (x ∷ xs) ys (z ∷ zs) ws h = omega (arith, ints, dot-append xs ys zs ws (omega arith))
 
-dot-none : (xs zs : List ℤ) → ((i : ℕ) → i < length xs → get_or xs i (pos 0) ≡ pos 0) → dot xs zs ≡ pos 0
+pub dot-none : (xs zs : List ℤ) → ((i : ℕ) → i < length xs → get_or xs i (pos 0) ≡ pos 0) → dot xs zs ≡ pos 0
 dot-none [] zs h = refl
 dot-none (x ∷ xs) [] h = refl
 dot-none (x ∷ xs) (z ∷ zs) h =
@@ -89,7 +89,7 @@ dot-none (x ∷ xs) (z ∷ zs) h =
     let rest : dot xs zs ≡ pos 0 = dot-none xs zs (λ i below. h (suc i) (omega (arith, below))) in
     ap₂ (λ (m n : ℤ). (m *ℤ z) +ℤ n) first rest ∙ omega (arith, ints)
 
-dot-single : (xs zs : List ℤ) (j : ℕ) → j < length xs → ((i : ℕ) → i < length xs → (i ≡ j → ⊥) → get_or xs i (pos 0) ≡ pos 0) → dot xs zs ≡ get_or xs j (pos 0) *ℤ get_or zs j (pos 0)
+pub dot-single : (xs zs : List ℤ) (j : ℕ) → j < length xs → ((i : ℕ) → i < length xs → (i ≡ j → ⊥) → get_or xs i (pos 0) ≡ pos 0) → dot xs zs ≡ get_or xs j (pos 0) *ℤ get_or zs j (pos 0)
 dot-single [] zs j below h = absurd (omega arith)
 dot-single (x ∷ xs) [] j below h = omega (arith, ints)
 dot-single (x ∷ xs) (z ∷ zs) zero below h =
@@ -100,7 +100,7 @@ dot-single (x ∷ xs) (z ∷ zs) (suc j) below h =
     let rest : dot xs zs ≡ get_or xs j (pos 0) *ℤ get_or zs j (pos 0) = dot-single xs zs j (omega (arith, below)) (λ i within other. h (suc i) (omega (arith, within)) (λ same. other (omega (arith, same)))) in
     ap (λ (m : ℤ). (m *ℤ z) +ℤ dot xs zs) first ∙ omega (arith, ints, rest)
 
-get_or-zeros : (n i : ℕ) → get_or (replicate n (pos 0)) i (pos 0) ≡ pos 0
+pub get_or-zeros : (n i : ℕ) → get_or (replicate n (pos 0)) i (pos 0) ≡ pos 0
 get_or-zeros zero i = refl
 get_or-zeros (suc n) zero = refl
 get_or-zeros (suc n) (suc i) = get_or-zeros n i
@@ -164,7 +164,7 @@ cancel_positive n a b same =
     let none : a +ℤ neg_ℤ b ≡ pos 0 = factor_zero (pos (suc n)) (a +ℤ neg_ℤ b) (omega (arith, ints)) gap in
     omega (arith, ints, none)
 
-mul_cancel : (p a b : ℤ) → 0 < unsigned_abs p → p *ℤ a ≡ p *ℤ b → a ≡ b
+pub mul_cancel : (p a b : ℤ) → 0 < unsigned_abs p → p *ℤ a ≡ p *ℤ b → a ≡ b
 mul_cancel (pos zero) a b some same = absurd (omega (arith, ints, some))
 mul_cancel (pos (suc n)) a b some same = cancel_positive n a b same
 mul_cancel (negsuc n) a b some same =
@@ -194,7 +194,7 @@ dot-times f d (c ∷ cs) (x ∷ w) =
 shared_divides : (p : ℤ) (cs : List ℤ) → DividesEach (shared p cs) cs
 shared_divides p cs = λ i d here. dvd_trans (shared p cs) (gcd_of-is_gcd (unsigned_abs p) (gcd_of_all cs)).1 ((gcd_of_all-is_gcd cs).divides i d here)
 
-rearranged : (d q f s : ℤ) → (d *ℤ q) *ℤ (f *ℤ s) ≡ (q *ℤ f) *ℤ (d *ℤ s)
+pub rearranged : (d q f s : ℤ) → (d *ℤ q) *ℤ (f *ℤ s) ≡ (q *ℤ f) *ℤ (d *ℤ s)
 rearranged d q f s =
     mul_assoc_int d q (f *ℤ s) ∙ ap (λ (m : ℤ). d *ℤ m) (sym (mul_assoc_int q f s)) ∙ mul_left_comm_int d (q *ℤ f) s
 
@@ -225,10 +225,10 @@ multiple_of_first a m =
     let same : common_multiple a m ≡ a * (m / g) = ap (λ k. (a / g) * k) (sym second) ∙ sym (mul_assoc (a / g) g (m / g)) ∙ ap (λ k. k * (m / g)) first in
     subst (λ k. a ∣ k) (sym same) (dvd-mul_right a (m / g))
 
-multiple_of_second : (a m : ℕ) → m ∣ common_multiple a m
+pub multiple_of_second : (a m : ℕ) → m ∣ common_multiple a m
 multiple_of_second a m = dvd-mul_left m (a / gcd_of a m)
 
-known_divides : (from count known j : ℕ) (rows : List Affine) → known ∣ denominator_from from count known j rows
+pub known_divides : (from count known j : ℕ) (rows : List Affine) → known ∣ denominator_from from count known j rows
 known_divides from count known j [] = dvd_refl known
 known_divides from count known j (row ∷ rows) =
     let m = unsigned_abs (int_div_euclid (entry j row) (pos (shared (entry j row) (columns_of from count row)))) in

@@ -53,3 +53,16 @@ TakesBack params f z (NoInverse (Kernel vector)) = Unit {0}
 TakesBack params f z Entry = Unit {0}
 TakesBack params f z Overflow = Unit {0}
 TakesBack params f z Memory = Unit {0}
+
+-- a vector that isn't 0 and that the index part maps to 0
+pub record IsKernel (params : ℕ) (f : AffineMap) (vector : List ℤ) : Type 0 where
+  pub length_is : length vector ≡ length f.rows
+  pub nonzero : All (λ x. x ≡ pos 0) vector → ⊥
+  pub image : All (λ x. x ≡ pos 0) (index_image params f.rows vector)
+
+abbrev pub GoesToZero : ℕ → AffineMap → LinFault → Type 0
+GoesToZero params f (NoInverse (Kernel vector)) = IsKernel params f vector
+GoesToZero params f (NoInverse (Rational nums den)) = Unit {0}
+GoesToZero params f Entry = Unit {0}
+GoesToZero params f Overflow = Unit {0}
+GoesToZero params f Memory = Unit {0}

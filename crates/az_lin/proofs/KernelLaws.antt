@@ -1,6 +1,6 @@
 -- Where the elimination ends before the last column, the vector that it answers goes to zero: it solves the rows at the
 -- end, and so those at the start.
-use Rattle.std.proofs.Common.{◌≡◌, ℕ, zero, suc, ◌+◌, ◌-◌, ◌*◌, ◌/◌, ◌<◌, ◌≤◌, arith, refl, sym, subst, ap, ap₂, ◌∙◌, append_assoc, List, [], ◌∷◌, ◌++◌, length, take, drop, set, replicate, map, All, get_or, ℤ, pos, negsuc, unsigned_abs, ◌+ℤ◌, ◌*ℤ◌, ◌<ℤ◌, Err}
+use Rattle.std.proofs.Common.{◌≡◌, ℕ, zero, suc, ◌+◌, ◌-◌, ◌/◌, ◌<◌, ◌≤◌, arith, refl, sym, subst, ap, ap₂, ◌∙◌, append_assoc, List, [], ◌∷◌, ◌++◌, length, take, drop, set, replicate, map, All, get_or, ℤ, pos, negsuc, unsigned_abs, ◌+ℤ◌, ◌*ℤ◌, ◌<ℤ◌, Err}
 use lib.IntN.{neg_ℤ}
 use Rattle.std.proofs.lemmas.Int.{ints}
 use Rattle.std.proofs.lemmas.Nat.Gcd.{dvd_trans}
@@ -12,7 +12,7 @@ use Rattle.std.proofs.lemmas.List.Sums.{fails_before_first}
 use Rattle.std.specs.Int.{int_div_euclid}
 use Rattle.std.specs.List.{remove}
 use Rattle.az_lin.specs.Affine.{Affine, AffineMap, HasWidth, dot}
-use Rattle.az_lin.specs.CommonDivisor.{gcd_of, gcd_of_all}
+use Rattle.az_lin.specs.CommonDivisor.{gcd_of_all}
 use Rattle.az_lin.specs.Combination.{scaled_sum}
 use Rattle.az_lin.specs.Inversion.{entry, reaches, primitive, row_factor, pivot_factor, difference, cleared, Tableau, place_of, step, start, final, reduced, at_least_one, HasSize, HavePivots, beside, beside_identity, columns_of, shared, common_multiple, denominator_from, over_pivot, numerators, kernel_number, kernel_vector}
 use Rattle.az_lin.specs.InversionAnswer.{IsKernel, IsInversion, index_image}

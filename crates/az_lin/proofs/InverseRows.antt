@@ -1,10 +1,10 @@
 -- The rows of an inverse map, made one after the other.
-use Rattle.std.proofs.Common.{◌≡◌, ℕ, zero, suc, ◌+◌, ◌-◌, ◌*◌, ◌<◌, ◌≤◌, arith, refl, sym, subst, ap, ap₂, ◌∙◌, append_assoc, append-nil, List, [], ◌∷◌, ◌++◌, length, take, drop, map, All, ℤ}
+use Rattle.std.proofs.Common.{◌≡◌, ℕ, zero, suc, ◌+◌, ◌-◌, ◌*◌, ◌≤◌, arith, sym, subst, ap, ap₂, ◌∙◌, append_assoc, List, [], ◌∷◌, ◌++◌, length, take, drop, map, All, ℤ}
 use Rattle.std.proofs.lemmas.List.{length-drop, length-append, length-take-le}
 use Rattle.std.proofs.lemmas.List.FromFn.{length-map-range_with_len}
 use Rattle.std.proofs.lemmas.List.Elements.{All-head, All-nil, All-cons}
 use Rattle.std.specs.List.{range_with_len}
-use Rattle.az_lin.specs.Affine.{Affine, HasEntries, HasWidth, dot}
+use Rattle.az_lin.specs.Affine.{Affine, HasWidth, dot}
 use Rattle.az_lin.specs.Substitution.{column}
 use Rattle.az_lin.specs.Inversion.{inverse_row, inverse_rows}
 use Rattle.az_lin.proofs.Fractions.{All-back}

@@ -1,9 +1,9 @@
 -- The end of an elimination: its size and shape, and what it answers.
-use Rattle.std.proofs.Common.{◌≡◌, ℕ, zero, suc, ◌+◌, ◌*◌, ◌<◌, ◌≤◌, arith, refl, sym, subst, ap, ◌∙◌, List, [], ◌∷◌, ◌++◌, length, drop, set, replicate, All, ℤ, pos, ◌↔◌}
+use Rattle.std.proofs.Common.{◌≡◌, ℕ, suc, ◌+◌, ◌*◌, ◌<◌, ◌≤◌, arith, refl, sym, subst, ap, ◌∙◌, List, [], ◌∷◌, length, drop, set, replicate, All, pos, ◌↔◌}
 use Rattle.std.proofs.lemmas.List.{length-drop, length-append, length-set, length-replicate}
 use Rattle.std.proofs.lemmas.List.Elements.{All-head, All-tail, All-nil, All-cons, All-weaker}
-use Rattle.az_lin.specs.Affine.{Affine, AffineMap, HasWidth, IsWide}
-use Rattle.az_lin.specs.Inversion.{Tableau, HasSize, HavePivots, beside, beside_identity, start, final, reduced, ReducesWide, kernel_vector, inverse_denominator, inverse_numerators}
+use Rattle.az_lin.specs.Affine.{Affine, HasWidth, IsWide}
+use Rattle.az_lin.specs.Inversion.{Tableau, HasSize, HavePivots, beside, beside_identity, start, final, kernel_vector, inverse_denominator, inverse_numerators}
 use Rattle.az_lin.specs.InversionAnswer.{EndsWide}
 use Rattle.az_lin.proofs.TableauSteps.{HasSize-step}
 use Rattle.az_lin.proofs.Fractions.{length-numerators}

@@ -15,3 +15,4 @@ pub mod Pivots
 pub mod InverseRows
 pub mod InversionEnd
 pub mod Undone
+pub mod KernelLaws

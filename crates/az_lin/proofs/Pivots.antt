@@ -1,24 +1,23 @@
 -- What a reduced tableau looks like: each pivot row has an entry in its own column and none in the other pivots'
 -- columns, and the rows that are left have none in any. And the points at which all rows are 0 stay the same.
-use Rattle.std.proofs.Common.{◌≡◌, ℕ, zero, suc, ◌+◌, ◌<◌, ◌≤◌, arith, refl, sym, subst, ap, ap₂, ◌∙◌, Bool, true, false, cond, List, [], ◌∷◌, ◌++◌, length, take, drop, map, All, get_or, ℤ, pos, negsuc, unsigned_abs, mul-pos, ◌+ℤ◌, ◌*ℤ◌, ◌<ℤ◌, neg_ℤ, ltb}
+use Rattle.std.proofs.Common.{◌≡◌, ℕ, zero, suc, ◌+◌, ◌<◌, ◌≤◌, arith, refl, sym, subst, ap, ap₂, ◌∙◌, Bool, true, false, List, [], ◌∷◌, ◌++◌, length, take, drop, map, All, get_or, ℤ, pos, negsuc, unsigned_abs, mul-pos, ◌*ℤ◌, ◌<ℤ◌, neg_ℤ}
 use Rattle.std.proofs.lemmas.Int.{ints, unsigned_abs-mul}
 use Rattle.std.proofs.Math.Nat.{one-dvd}
 use Rattle.az_lin.proofs.Negation.{neg_mul}
 use Rattle.std.proofs.lemmas.List.{get_or_default, length-map, length-append}
-use Rattle.std.proofs.lemmas.List.Elements.{All-head, All-tail, All-append, All-map, All-weaker, All-cons, All-nil, All-take, All-drop}
-use Rattle.std.proofs.lemmas.List.Sums.{passes_at_first, fails_before_first}
+use Rattle.std.proofs.lemmas.List.Elements.{All-head, All-tail, All-append, All-cons, All-nil, All-take, All-drop}
+use Rattle.std.proofs.lemmas.List.Sums.{passes_at_first}
 use Rattle.std.specs.Int.{int_div_euclid}
 use Rattle.std.specs.List.{remove}
-use Rattle.az_lin.specs.Affine.{Affine, dot}
+use Rattle.az_lin.specs.Affine.{Affine}
 use Rattle.az_lin.specs.CommonDivisor.{DividesEach, gcd_of, gcd_of_all}
 use Rattle.az_lin.specs.Combination.{scaled_sum, scaled_sums}
 use Rattle.az_lin.specs.Inversion.{entry, reaches, at_least_one, primitive, common, row_factor, pivot_factor, difference, cleared, Tableau, place_of, step, reduced, HasSize, HavePivots}
 use Rattle.az_lin.proofs.Integers.{floor_exact, mul_comm_int, mul_left_comm_int, mul-pos_int}
 use Rattle.az_lin.proofs.DivisorLaws.{gcd_of-is_gcd, gcd_of_all-is_gcd}
-use Rattle.az_lin.proofs.StepLaws.{dot-quotient, dot-scaled_sums}
 use Rattle.az_lin.proofs.Clearing.{gcd_of-positive, is_positive_true, zero_unless_reached, cleared_reached, cleared_unreached, at_least_one_is}
 use Rattle.az_lin.proofs.Fractions.{quotient_nonzero, positive_factor}
-use Rattle.az_lin.proofs.TableauSteps.{step_found, step_stuck, HasSize-step, length-scaled_sums}
+use Rattle.az_lin.proofs.TableauSteps.{step_found, step_stuck}
 use Prim.Native.Nat.{◌∣◌}
 
 pub by_zero : {P : Type 0} (n : ℕ) → (n ≡ 0 → P) → (0 < n → P) → P
@@ -30,7 +29,7 @@ by_below i zero f g = g (omega arith)
 by_below zero (suc k) f g = f (omega arith)
 by_below (suc i) (suc k) f g = by_below i k (λ h. f (omega (arith, h))) (λ h. g (omega (arith, h)))
 
-by_last : {P : Type 0} (i k : ℕ) → i < suc k → (i < k → P) → (i ≡ k → P) → P
+pub by_last : {P : Type 0} (i k : ℕ) → i < suc k → (i < k → P) → (i ≡ k → P) → P
 by_last i k h f g = by_below i k f (λ past. g (omega (arith, h, past)))
 
 -- the divisor of a row is positive and divides its entries

@@ -1,13 +1,13 @@
 -- What a step does to a tableau, and that its size stays.
-use Rattle.std.proofs.Common.{◌≡◌, ℕ, zero, suc, ◌+◌, ◌-◌, ◌<◌, ◌≤◌, arith, refl, sym, subst, ap, ap₂, ◌∙◌, Bool, true, false, cond, Result, Ok, Err, IfOk, append_assoc, List, [], ◌∷◌, ◌++◌, length, take, drop, set, replicate, map, All, get_or, ℤ, pos, ◌↔◌, add-one}
-use Rattle.std.proofs.lemmas.List.{set-get_or, length-map, length-append, take-append-drop, length-drop, set-append_right, length-replicate, take_all, take_rest}
+use Rattle.std.proofs.Common.{◌≡◌, ℕ, zero, suc, ◌+◌, ◌-◌, ◌<◌, ◌≤◌, arith, refl, sym, subst, ap, ◌∙◌, Bool, true, false, cond, Result, Ok, Err, IfOk, append_assoc, List, [], ◌∷◌, ◌++◌, length, take, drop, set, replicate, map, All, get_or, ℤ, pos, ◌↔◌, add-one}
+use Rattle.std.proofs.lemmas.List.{set-get_or, length-map, length-append, take-append-drop, length-drop, set-append_right, take_all, take_rest}
 use Rattle.std.proofs.Math.ListN.{drop_of_length-le}
 use Rattle.std.proofs.Math.Seq.{drop-cons}
-use Rattle.std.proofs.lemmas.List.Elements.{All-head, All-tail, All-append, All-take, All-drop, All-map, All-same, All-cons, All-nil, All-weaker, All-set, All-replicate}
+use Rattle.std.proofs.lemmas.List.Elements.{All-head, All-tail, All-append, All-take, All-drop, All-map, All-cons, All-nil, All-weaker, All-set, All-replicate}
 use Rattle.std.specs.List.{remove}
 use Rattle.az_lin.specs.Affine.{Affine, IsEntry, IsWide}
 use Rattle.az_lin.specs.Combination.{scaled_sums}
-use Rattle.az_lin.specs.Inversion.{entry, reaches, primitive, row_factor, pivot_factor, difference, cleared, ClearsWide, Tableau, place_of, step_from, step, StepsWideFrom, StepsWide, reduced, ReducesWide, HasSize, beside, beside_identity}
+use Rattle.az_lin.specs.Inversion.{entry, reaches, primitive, row_factor, pivot_factor, difference, cleared, ClearsWide, Tableau, place_of, step_from, step, StepsWideFrom, StepsWide, HasSize, beside, beside_identity}
 use Rattle.az_lin.specs.declared.fault.LinFault.{LinFault}
 
 -- a step with a pivot, and one without

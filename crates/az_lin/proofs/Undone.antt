@@ -7,7 +7,7 @@ use Rattle.std.proofs.lemmas.Nat.Gcd.{dvd_trans, dvd_refl}
 use Rattle.std.proofs.Math.Nat.{mul_assoc, dvd-mul_left, dvd-mul_right, mul-div_cancel', div-mul_cancel}
 use Rattle.std.proofs.Math.Seq.{drop-cons, take-append_seam, drop-append_seam}
 use Rattle.std.proofs.Math.ListN.{drop_of_length-le}
-use Rattle.std.proofs.lemmas.List.{length-map, length-append, length-take-le, length-drop, take-append-drop, get_or-take, take_all}
+use Rattle.std.proofs.lemmas.List.{length-map, length-take-le, length-drop, take-append-drop, get_or-take, take_all}
 use Rattle.std.proofs.lemmas.List.FromFn.{fill_by_all, length-map-range_with_len}
 use Rattle.std.proofs.lemmas.List.Elements.{All-head, All-tail, All-nil, All-cons, All-append, All-weaker}
 use Rattle.std.specs.Int.{int_div_euclid}
@@ -16,19 +16,21 @@ use Rattle.az_lin.specs.Affine.{Affine, AffineMap, HasWidth, dot, value_at, imag
 use Rattle.az_lin.specs.CommonDivisor.{DividesEach, gcd_of, gcd_of_all}
 use Rattle.az_lin.specs.Combination.{scaled_sum}
 use Rattle.az_lin.specs.Substitution.{column, constants}
-use Rattle.az_lin.specs.Inversion.{entry, primitive, row_factor, pivot_factor, difference, cleared, Tableau, step, start, final, at_least_one, HasSize, beside, beside_identity, columns_of, shared, common_multiple, denominator_from, over_pivot, numerators, inverse_row, inverse_rows, inverse_denominator, inverse_map}
-use Rattle.az_lin.specs.InversionAnswer.{IsWhole, IsInversion}
+use Rattle.az_lin.specs.Inversion.{entry, primitive, row_factor, pivot_factor, difference, cleared, Tableau, step, start, final, at_least_one, HasSize, beside, beside_identity, columns_of, shared, common_multiple, denominator_from, over_pivot, numerators, inverse_row, inverse_rows, inverse_denominator, inverse_numerators, inverse_map}
+use Rattle.az_lin.specs.InversionAnswer.{IsWhole, IsInversion, TakesBack, index_image, rows_times}
 use Rattle.az_lin.specs.declared.fault.LinFault.{LinFault}
+use Rattle.az_lin.specs.declared.fault.LinFault.TheVariants.{NoInverse}
+use Rattle.az_lin.specs.declared.fault.NoInverse.TheVariants.{Rational}
 use Rattle.az_lin.proofs.Integers.{floor_exact, mul_comm_int, mul_assoc_int, mul_left_comm_int, mul-add_int}
 use Rattle.az_lin.proofs.StepLaws.{dot-quotient, dot-scaled_sums}
 use Rattle.az_lin.proofs.DivisorLaws.{gcd_of-is_gcd, gcd_of_all-is_gcd}
 use Rattle.az_lin.proofs.Negation.{neg_mul}
 use Rattle.az_lin.proofs.Substitution.{dot-zeros, dot-linear}
 use Rattle.az_lin.proofs.Clearing.{cleared_reached, cleared_unreached, gcd_of-positive}
-use Rattle.az_lin.proofs.Fractions.{quotient_nonzero}
+use Rattle.az_lin.proofs.Fractions.{quotient_nonzero, denominator_low}
 use Rattle.az_lin.proofs.TableauSteps.{HasSize-step}
 use Rattle.az_lin.proofs.Pivots.{factor_zero, zero_sum, by_reach, divisor_positive, primitive_divides, step_cases, remove_keeps, reduced_keeps, PivotShapes}
-use Rattle.az_lin.proofs.InversionEnd.{HasSize-start, IsSound, final_sound, rest_none}
+use Rattle.az_lin.proofs.InversionEnd.{HasSize-start, IsSound, final_sound, final_pivots, rest_none}
 use Prim.Native.Nat.{◌∣◌}
 
 abbrev pub Vanishes : List ℤ → Affine → Type 0
@@ -79,7 +81,7 @@ dot-append [] ys (z ∷ zs) ws h = absurd (omega arith)
 dot-append (x ∷ xs) ys [] ws h = absurd (omega arith)
 dot-append (x ∷ xs) ys (z ∷ zs) ws h = omega (arith, ints, dot-append xs ys zs ws (omega arith))
 
-dot-none : (xs zs : List ℤ) → ((i : ℕ) → i < length xs → get_or xs i (pos 0) ≡ pos 0) → dot xs zs ≡ pos 0
+pub dot-none : (xs zs : List ℤ) → ((i : ℕ) → i < length xs → get_or xs i (pos 0) ≡ pos 0) → dot xs zs ≡ pos 0
 dot-none [] zs h = refl
 dot-none (x ∷ xs) [] h = refl
 dot-none (x ∷ xs) (z ∷ zs) h =
@@ -87,7 +89,7 @@ dot-none (x ∷ xs) (z ∷ zs) h =
     let rest : dot xs zs ≡ pos 0 = dot-none xs zs (λ i below. h (suc i) (omega (arith, below))) in
     ap₂ (λ (m n : ℤ). (m *ℤ z) +ℤ n) first rest ∙ omega (arith, ints)
 
-dot-single : (xs zs : List ℤ) (j : ℕ) → j < length xs → ((i : ℕ) → i < length xs → (i ≡ j → ⊥) → get_or xs i (pos 0) ≡ pos 0) → dot xs zs ≡ get_or xs j (pos 0) *ℤ get_or zs j (pos 0)
+pub dot-single : (xs zs : List ℤ) (j : ℕ) → j < length xs → ((i : ℕ) → i < length xs → (i ≡ j → ⊥) → get_or xs i (pos 0) ≡ pos 0) → dot xs zs ≡ get_or xs j (pos 0) *ℤ get_or zs j (pos 0)
 dot-single [] zs j below h = absurd (omega arith)
 dot-single (x ∷ xs) [] j below h = omega (arith, ints)
 dot-single (x ∷ xs) (z ∷ zs) zero below h =
@@ -98,7 +100,7 @@ dot-single (x ∷ xs) (z ∷ zs) (suc j) below h =
     let rest : dot xs zs ≡ get_or xs j (pos 0) *ℤ get_or zs j (pos 0) = dot-single xs zs j (omega (arith, below)) (λ i within other. h (suc i) (omega (arith, within)) (λ same. other (omega (arith, same)))) in
     ap (λ (m : ℤ). (m *ℤ z) +ℤ dot xs zs) first ∙ omega (arith, ints, rest)
 
-get_or-zeros : (n i : ℕ) → get_or (replicate n (pos 0)) i (pos 0) ≡ pos 0
+pub get_or-zeros : (n i : ℕ) → get_or (replicate n (pos 0)) i (pos 0) ≡ pos 0
 get_or-zeros zero i = refl
 get_or-zeros (suc n) zero = refl
 get_or-zeros (suc n) (suc i) = get_or-zeros n i
@@ -116,10 +118,6 @@ dot-neg_right : (xs ws : List ℤ) → dot xs (map neg_ℤ ws) ≡ neg_ℤ (dot 
 dot-neg_right [] ws = refl
 dot-neg_right (x ∷ xs) [] = refl
 dot-neg_right (x ∷ xs) (w ∷ ws) = omega (arith, ints, mul_comm_int x (neg_ℤ w), neg_mul w x, mul_comm_int w x, dot-neg_right xs ws)
-
--- the image of the index part
-pub index_image : ℕ → List Affine → List ℤ → List ℤ
-index_image params rows z = map (λ row. dot (drop params row.coefs) z) rows
 
 -- the start is solved
 head_of : (k : ℕ) (v rest : List ℤ) (a : ℤ) → drop k v ≡ a ∷ rest → k < length v → get_or v k (pos 0) ≡ a
@@ -166,7 +164,7 @@ cancel_positive n a b same =
     let none : a +ℤ neg_ℤ b ≡ pos 0 = factor_zero (pos (suc n)) (a +ℤ neg_ℤ b) (omega (arith, ints)) gap in
     omega (arith, ints, none)
 
-mul_cancel : (p a b : ℤ) → 0 < unsigned_abs p → p *ℤ a ≡ p *ℤ b → a ≡ b
+pub mul_cancel : (p a b : ℤ) → 0 < unsigned_abs p → p *ℤ a ≡ p *ℤ b → a ≡ b
 mul_cancel (pos zero) a b some same = absurd (omega (arith, ints, some))
 mul_cancel (pos (suc n)) a b some same = cancel_positive n a b same
 mul_cancel (negsuc n) a b some same =
@@ -196,7 +194,7 @@ dot-times f d (c ∷ cs) (x ∷ w) =
 shared_divides : (p : ℤ) (cs : List ℤ) → DividesEach (shared p cs) cs
 shared_divides p cs = λ i d here. dvd_trans (shared p cs) (gcd_of-is_gcd (unsigned_abs p) (gcd_of_all cs)).1 ((gcd_of_all-is_gcd cs).divides i d here)
 
-rearranged : (d q f s : ℤ) → (d *ℤ q) *ℤ (f *ℤ s) ≡ (q *ℤ f) *ℤ (d *ℤ s)
+pub rearranged : (d q f s : ℤ) → (d *ℤ q) *ℤ (f *ℤ s) ≡ (q *ℤ f) *ℤ (d *ℤ s)
 rearranged d q f s =
     mul_assoc_int d q (f *ℤ s) ∙ ap (λ (m : ℤ). d *ℤ m) (sym (mul_assoc_int q f s)) ∙ mul_left_comm_int d (q *ℤ f) s
 
@@ -227,10 +225,10 @@ multiple_of_first a m =
     let same : common_multiple a m ≡ a * (m / g) = ap (λ k. (a / g) * k) (sym second) ∙ sym (mul_assoc (a / g) g (m / g)) ∙ ap (λ k. k * (m / g)) first in
     subst (λ k. a ∣ k) (sym same) (dvd-mul_right a (m / g))
 
-multiple_of_second : (a m : ℕ) → m ∣ common_multiple a m
+pub multiple_of_second : (a m : ℕ) → m ∣ common_multiple a m
 multiple_of_second a m = dvd-mul_left m (a / gcd_of a m)
 
-known_divides : (from count known j : ℕ) (rows : List Affine) → known ∣ denominator_from from count known j rows
+pub known_divides : (from count known j : ℕ) (rows : List Affine) → known ∣ denominator_from from count known j rows
 known_divides from count known j [] = dvd_refl known
 known_divides from count known j (row ∷ rows) =
     let m = unsigned_abs (int_div_euclid (entry j row) (pos (shared (entry j row) (columns_of from count row)))) in
@@ -294,15 +292,15 @@ inverse_row_at params own rows p z long h =
       parts_at params own rows p z long h,
     )
 
--- all rows of the inverse
-rows_undo : (params n den known j : ℕ) (rows : List Affine) (pivots : List Affine) (p z : List ℤ) → den ≡ 1 → den ≡ denominator_from n n known j pivots → length p ≡ params → length z ≡ n → length rows ≡ n
-    → All (λ row. params ≤ length row.coefs) rows → All (λ row. length row.coefs ≡ n + n) pivots → PivotShapes n j pivots
-    → All (Vanishes (z ++ map neg_ℤ (map (λ row. dot (drop params row.coefs) z) rows))) pivots → j + length pivots ≡ n
-    → map (λ row. value_at row (p ++ map (λ row. value_at row (p ++ z)) rows)) (inverse_rows params rows (length pivots) (numerators n n (pos den) j pivots)) ≡ drop j z
-rows_undo params n den known j rows [] p z one is long wide square h widths shapes solved count = sym (drop_of_length-le z (omega (arith, count, wide)))
-rows_undo params n den known j rows (row ∷ pivots) p z one is long wide square h widths shapes solved count =
+-- all rows of numerators take the image back, times the denominator
+rows_give : (params n den known j : ℕ) (rows : List Affine) (pivots : List Affine) (z : List ℤ) → den ≡ denominator_from n n known j pivots → length z ≡ n
+    → All (λ row. length row.coefs ≡ n + n) pivots → PivotShapes n j pivots
+    → All (Vanishes (z ++ map neg_ℤ (index_image params rows z))) pivots → j + length pivots ≡ n
+    → rows_times n (length pivots) (numerators n n (pos den) j pivots) (index_image params rows z) ≡ map (λ x. pos den *ℤ x) (drop j z)
+rows_give params n den known j rows [] z is wide widths shapes solved count = ap (map (λ x. pos den *ℤ x)) (sym (drop_of_length-le z (omega (arith, count, wide))))
+rows_give params n den known j rows (row ∷ pivots) z is wide widths shapes solved count =
     let W : Affine → Type 0 = λ r. length r.coefs ≡ n + n in
-    let w = map (λ (r : Affine). dot (drop params r.coefs) z) rows in
+    let w = index_image params rows z in
     let x = z ++ map neg_ℤ w in
     let cs = columns_of n n row in
     let m = unsigned_abs (int_div_euclid (entry j row) (pos (shared (entry j row) cs))) in
@@ -313,16 +311,25 @@ rows_undo params n den known j rows (row ∷ pivots) p z one is long wide square
     let right : cs ≡ drop n row.coefs = take_all n (drop n row.coefs) (omega (arith, full, length-drop n row.coefs)) in
     let given : entry j row *ℤ get_or z j (pos 0) ≡ dot cs w = pivot_gives n j row z w full below wide shapes.0.1 (All-head (Vanishes x) row pivots solved) ∙ ap (λ (xs : List ℤ). dot xs w) (sym right) in
     let divides : m ∣ den = subst (λ k. m ∣ k) (sym is) (dvd_trans m (multiple_of_second known m) (known_divides n n (common_multiple known m) (suc j) pivots)) in
-    let gives : dot own w ≡ get_or z j (pos 0) = numerators_give den (entry j row) (get_or z j (pos 0)) cs w shapes.0.0 divides given ∙ ap (λ k. pos k *ℤ get_or z j (pos 0)) one ∙ omega (arith, ints) in
-    let own_count : length own ≡ length rows = length-map cs _ ∙ ap length right ∙ omega (arith, full, length-drop n row.coefs, square) in
-    let first : take (length rows) (own ++ rest) ≡ own = ap (λ k. take k (own ++ rest)) (sym own_count) ∙ take-append_seam own rest in
-    let second : drop (length rows) (own ++ rest) ≡ rest = ap (λ k. drop k (own ++ rest)) (sym own_count) ∙ drop-append_seam own rest in
-    let Value : Affine → ℤ = λ r. value_at r (p ++ map (λ r. value_at r (p ++ z)) rows) in
-    let Made : List ℤ → List ℤ → List ℤ = λ xs ys. Value (inverse_row params rows xs) ∷ map Value (inverse_rows params rows (length pivots) ys) in
-    ap₂ Made first second
-    ∙ ap₂ (λ (a : ℤ) (more : List ℤ). a ∷ more) (inverse_row_at params own rows p z long h ∙ gives)
-    (rows_undo params n den (common_multiple known m) (suc j) rows pivots p z one is long wide square h (All-tail W row pivots widths) shapes.1 (All-tail (Vanishes x) row pivots solved) (omega (arith, count)))
-    ∙ sym (drop-cons z j (pos 0) (omega (arith, below, wide)))
+    let gives : dot own w ≡ pos den *ℤ get_or z j (pos 0) = numerators_give den (entry j row) (get_or z j (pos 0)) cs w shapes.0.0 divides given in
+    let own_count : length own ≡ n = length-map cs _ ∙ ap length right ∙ omega (arith, full, length-drop n row.coefs) in
+    let first : take n (own ++ rest) ≡ own = ap (λ k. take k (own ++ rest)) (sym own_count) ∙ take-append_seam own rest in
+    let second : drop n (own ++ rest) ≡ rest = ap (λ k. drop k (own ++ rest)) (sym own_count) ∙ drop-append_seam own rest in
+    ap₂ (λ (xs ys : List ℤ). dot xs w ∷ rows_times n (length pivots) ys w) first second
+    ∙ ap₂ (λ (a : ℤ) (more : List ℤ). a ∷ more) gives
+    (rows_give params n den (common_multiple known m) (suc j) rows pivots z is wide (All-tail W row pivots widths) shapes.1 (All-tail (Vanishes x) row pivots solved) (omega (arith, count)))
+    ∙ ap (map (λ x. pos den *ℤ x)) (sym (drop-cons z j (pos 0) (omega (arith, below, wide))))
+
+-- the rows of the inverse do what the numbers do
+inverse_rows_times : (params : ℕ) (rows : List Affine) (k : ℕ) (numbers p z : List ℤ) → length p ≡ params → All (λ row. params ≤ length row.coefs) rows
+    → map (λ row. value_at row (p ++ map (λ row. value_at row (p ++ z)) rows)) (inverse_rows params rows k numbers) ≡ rows_times (length rows) k numbers (index_image params rows z)
+inverse_rows_times params rows zero numbers p z long h = refl
+inverse_rows_times params rows (suc k) numbers p z long h =
+    ap₂ (λ (a : ℤ) (more : List ℤ). a ∷ more) (inverse_row_at params (take (length rows) numbers) rows p z long h) (inverse_rows_times params rows k (drop (length rows) numbers) p z long h)
+
+times_one : (z : List ℤ) → map (λ x. pos 1 *ℤ x) z ≡ z
+times_one [] = refl
+times_one (x ∷ z) = ap₂ (λ (a : ℤ) (more : List ℤ). a ∷ more) (omega (arith, ints)) (times_one z)
 
 record Followed (n : ℕ) (x : List ℤ) (t : Tableau) : Type 0 where
   size : HasSize n t
@@ -332,14 +339,15 @@ map-map-neg : (params : ℕ) (z : List ℤ) (rows : List Affine) → map neg_ℤ
 map-map-neg params z [] = refl
 map-map-neg params z (row ∷ rows) = ap (λ (xs : List ℤ). neg_ℤ (dot (drop params row.coefs) z) ∷ xs) (map-map-neg params z rows)
 
--- the integral inverse gives the point back from its image, for every choice of parameters
-pub inverse_undoes : (params : ℕ) (f : AffineMap) (p z : List ℤ) → All (HasWidth (params + length f.rows)) f.rows → IsWhole params f → inverse_denominator (length f.rows) (final params f.rows) ≡ 1
-    → length p ≡ params → length z ≡ length f.rows → image_of (inverse_map params f) (p ++ image_of f (p ++ z)) ≡ z
-inverse_undoes params f p z widths whole one long wide =
+-- the numerators take the image of the index part back, times the denominator
+pub numerators_undo : (params : ℕ) (f : AffineMap) (z : List ℤ) → All (HasWidth (params + length f.rows)) f.rows → IsWhole params f → length z ≡ length f.rows
+    → rows_times (length f.rows) (length f.rows) (inverse_numerators (length f.rows) (final params f.rows)) (index_image params f.rows z)
+    ≡ map (λ x. pos (inverse_denominator (length f.rows) (final params f.rows)) *ℤ x) z
+numerators_undo params f z widths whole wide =
     let rows = f.rows in
     let n = length rows in
     let t = final params rows in
-    let w = map (λ (row : Affine). dot (drop params row.coefs) z) rows in
+    let w = index_image params rows z in
     let v = map neg_ℤ w in
     let x = z ++ v in
     let v_count : length v ≡ n = length-map w neg_ℤ ∙ length-map rows _ in
@@ -353,14 +361,38 @@ inverse_undoes params f p z widths whole one long wide =
     let sound : IsSound n t = final_sound params rows widths in
     let full : length t.pivots ≡ n = rest_none n t sound.size whole in
     let shapes : PivotShapes n 0 t.pivots = subst (λ m. PivotShapes m 0 t.pivots) full sound.shape.pivots in
-    let reach : All (λ row. params ≤ length row.coefs) rows = All-weaker (HasWidth (params + n)) (λ row. params ≤ length row.coefs) (λ row h. omega (arith, h)) rows widths in
     let den = inverse_denominator n t in
-    let Value : Affine → ℤ = λ r. value_at r (p ++ map (λ r. value_at r (p ++ z)) rows) in
-    ap (λ k. map Value (inverse_rows params rows k (numerators n n (pos den) 0 t.pivots))) (sym full)
-    ∙ rows_undo params n den 1 0 rows t.pivots p z one refl long wide refl reach sound.size.pivot_widths shapes end.solved.pivots (omega (arith, full))
+    ap (λ k. rows_times n k (inverse_numerators n t) w) (sym full)
+    ∙ rows_give params n den 1 0 rows t.pivots z refl wide sound.size.pivot_widths shapes end.solved.pivots (omega (arith, full))
+
+-- the integral inverse gives the point back from its image, for every choice of parameters
+pub inverse_undoes : (params : ℕ) (f : AffineMap) (p z : List ℤ) → All (HasWidth (params + length f.rows)) f.rows → IsWhole params f → inverse_denominator (length f.rows) (final params f.rows) ≡ 1
+    → length p ≡ params → length z ≡ length f.rows → image_of (inverse_map params f) (p ++ image_of f (p ++ z)) ≡ z
+inverse_undoes params f p z widths whole one long wide =
+    let n = length f.rows in
+    let reach : All (λ row. params ≤ length row.coefs) f.rows = All-weaker (HasWidth (params + n)) (λ row. params ≤ length row.coefs) (λ row h. omega (arith, h)) f.rows widths in
+    inverse_rows_times params f.rows n (inverse_numerators n (final params f.rows)) p z long reach
+    ∙ numerators_undo params f z widths whole wide ∙ ap (λ k. map (λ x. pos k *ℤ x) z) one ∙ times_one z
 
 pub ok_undoes : (params : ℕ) (f : AffineMap) (answer : Result AffineMap LinFault) (p z : List ℤ) → All (HasWidth (params + length f.rows)) f.rows → IsInversion params f answer
     → length p ≡ params → length z ≡ length f.rows → IfOk answer (λ inverse. image_of inverse (p ++ image_of f (p ++ z)) ≡ z)
 ok_undoes params f (Ok inverse) p z widths exact long wide =
     ap (λ (g : AffineMap). image_of g (p ++ image_of f (p ++ z))) exact.3 ∙ inverse_undoes params f p z widths exact.1 exact.2 long wide
 ok_undoes params f (Err fault) p z widths exact long wide = tt
+
+above_one : (k : ℕ) → 1 ≤ k → (k ≡ 1 → ⊥) → pos 1 <ℤ pos k
+above_one zero low other = absurd (omega (arith, low))
+above_one (suc zero) low other = absurd (other refl)
+above_one (suc (suc k)) low other = omega (arith, ints)
+
+pub rational_undoes : (params : ℕ) (f : AffineMap) (nums : List ℤ) (den : ℤ) (z : List ℤ) → All (HasWidth (params + length f.rows)) f.rows → IsInversion params f (Err (NoInverse (Rational nums den)))
+    → length z ≡ length f.rows → TakesBack params f z (NoInverse (Rational nums den))
+rational_undoes params f nums den z widths exact wide =
+    let n = length f.rows in
+    let t = final params f.rows in
+    let k = inverse_denominator n t in
+    let low : 1 ≤ k = denominator_low n n 1 0 t.pivots (final_pivots params f.rows widths) (omega arith) in (
+      subst (λ (d : ℤ). pos 1 <ℤ d) (sym exact.3) (above_one k low exact.2),
+      ap (λ (numbers : List ℤ). rows_times n n numbers (index_image params f.rows z)) exact.4
+          ∙ numerators_undo params f z widths exact.1 wide ∙ ap (λ (d : ℤ). map (λ x. d *ℤ x) z) (sym exact.3),
+    )

@@ -4,7 +4,7 @@ use Rattle.std.specs.Prelude.{◌≡◌, ℕ, zero, suc, ◌+◌, ◌*◌, ◌-�
 use Rattle.std.specs.Prelude.{ℤ, pos, neg_ℤ, ◌*ℤ◌, unsigned_abs}
 use Rattle.std.specs.List.{position_or_len, range_with_len}
 use Rattle.std.specs.Int.{int_div_euclid}
-use Rattle.az_lin.specs.Affine.{Affine, AffineMap, IsWide, dot, HasEntries}
+use Rattle.az_lin.specs.Affine.{Affine, AffineMap, dot}
 use Rattle.az_lin.specs.CommonDivisor.{gcd_of, gcd_of_all}
 use Rattle.az_lin.specs.Combination.{combination, IsWideCombination, quotient}
 use Rattle.az_lin.specs.Substitution.{column, constants}

@@ -1,11 +1,10 @@
 -- What the inversion of a map answers.
-use Rattle.std.specs.Prelude.{◌≡◌, ◌≢◌, ◌<◌, ◌^◌, ℕ, List, [], ◌∷◌, length, All, ℤ, pos, Result, Ok, Err}
-use Rattle.az_lin.specs.Affine.{Affine, AffineMap, IsWide}
+use Rattle.std.specs.Prelude.{◌≡◌, ◌≢◌, ◌<◌, ◌^◌, ℕ, zero, suc, List, [], ◌∷◌, length, take, drop, map, All, ℤ, pos, ◌*ℤ◌, ◌<ℤ◌, Result, Ok, Err}
+use Rattle.az_lin.specs.Affine.{Affine, AffineMap, IsWide, dot}
 use Rattle.az_lin.specs.Substitution.{HasEntryRows}
-use Rattle.az_lin.specs.Inversion.{Tableau, start, final, ReducesWide, kernel_number, kernel_vector, inverse_denominator, inverse_numerators, inverse_map}
+use Rattle.az_lin.specs.Inversion.{Tableau, start, final, ReducesWide, kernel_vector, inverse_denominator, inverse_numerators, inverse_map}
 use Rattle.az_lin.specs.declared.fault.LinFault.{LinFault}
 use Rattle.az_lin.specs.declared.fault.LinFault.TheVariants.{Entry, NoInverse, Overflow, Memory}
-use Rattle.az_lin.specs.declared.fault.NoInverse.{NoInverse as Refusal}
 use Rattle.az_lin.specs.declared.fault.NoInverse.TheVariants.{Kernel, Rational}
 
 -- the numbers that are read off at the end are in range: those of the kernel vector where a row is left, and else the
@@ -35,3 +34,35 @@ IsInversion params f (Err (NoInverse (Rational nums den))) =
     × (den ≡ pos (inverse_denominator (length f.rows) (final params f.rows))) × (nums ≡ inverse_numerators (length f.rows) (final params f.rows))
 IsInversion params f (Err Overflow) = ¬ InvertsWide params f
 IsInversion params f (Err Memory) = Unit {0}
+
+-- the image of the index part
+abbrev pub index_image : ℕ → List Affine → List ℤ → List ℤ
+index_image params rows z = map (λ row. dot (drop params row.coefs) z) rows
+
+-- so many rows of n numbers, which stand one after the other in a list, each times a vector
+abbrev pub rows_times : ℕ → ℕ → List ℤ → List ℤ → List ℤ
+rows_times n zero numbers w = []
+rows_times n (suc k) numbers w = dot (take n numbers) w ∷ rows_times n k (drop n numbers) w
+
+-- where a refusal has the rational inverse, its numbers take each image of the index part back to the point, times the
+-- denominator, which is above 1
+abbrev pub TakesBack : ℕ → AffineMap → List ℤ → LinFault → Type 0
+TakesBack params f z (NoInverse (Rational nums den)) =
+    (pos 1 <ℤ den) × (rows_times (length f.rows) (length f.rows) nums (index_image params f.rows z) ≡ map (λ x. den *ℤ x) z)
+TakesBack params f z (NoInverse (Kernel vector)) = Unit {0}
+TakesBack params f z Entry = Unit {0}
+TakesBack params f z Overflow = Unit {0}
+TakesBack params f z Memory = Unit {0}
+
+-- a vector that isn't 0 and that the index part maps to 0
+pub record IsKernel (params : ℕ) (f : AffineMap) (vector : List ℤ) : Type 0 where
+  pub length_is : length vector ≡ length f.rows
+  pub nonzero : All (λ x. x ≡ pos 0) vector → ⊥
+  pub image : All (λ x. x ≡ pos 0) (index_image params f.rows vector)
+
+abbrev pub GoesToZero : ℕ → AffineMap → LinFault → Type 0
+GoesToZero params f (NoInverse (Kernel vector)) = IsKernel params f vector
+GoesToZero params f (NoInverse (Rational nums den)) = Unit {0}
+GoesToZero params f Entry = Unit {0}
+GoesToZero params f Overflow = Unit {0}
+GoesToZero params f Memory = Unit {0}

@@ -5,7 +5,7 @@ ghost use Rattle.az_lin.specs.Affine.{IsWide, HasWidth, HasEntries, image_of};
 ghost use Rattle.az_lin.specs.Answers.{IsExactly};
 ghost use Rattle.az_lin.specs.Substitution.{Point, HasEntryRows};
 ghost use Rattle.az_lin.specs.Inversion.{HavePivots, start, final, ReducesWide, kernel_vector, inverse_denominator, inverse_numerators, inverse_row, inverse_rows};
-ghost use Rattle.az_lin.specs.InversionAnswer.{EndsWide, IsInversion};
+ghost use Rattle.az_lin.specs.InversionAnswer.{EndsWide, IsInversion, GoesToZero, TakesBack};
 ghost use Rattle.az_lin.specs.declared.fault.LinFault.TheVariants.{Memory};
 
 use crate::fraction::{Part, denominator, numerators};
@@ -132,16 +132,19 @@ impl Map {
         ensures exact { IsInversion params self.now result }
         ensures undone { (p z : Point) → length p ≡ params → length z ≡ length self.now.rows
             → IfOk result (λ inverse. image_of inverse (p ++ image_of self.now (p ++ z)) ≡ z) }
+        ensures kernel { IfErr result (λ fault. GoesToZero params self.now fault) }
+        ensures rational { (z : Point) → length z ≡ length self.now.rows → IfErr result (λ fault. TakesBack params self.now z fault) }
     {
         let count = self.rows().len();
         let Some(reduced) = eliminated(alloc, params, self)? else {
             return Err(LinFault::Overflow);
         };
         if !reduced.is_whole() {
-            return match kernel(alloc, count, &reduced)? {
-                Some(vector) => Err(LinFault::NoInverse(NoInverse::Kernel(List::from_vec(vector)))),
-                None => Err(LinFault::Overflow),
+            let Some(vector) = kernel(alloc, count, &reduced)? else {
+                return Err(LinFault::Overflow);
             };
+            let vector = List::from_vec(vector);
+            return Err(LinFault::NoInverse(NoInverse::Kernel(vector)));
         }
         let Some(Quotients { nums, den }) = inverse_over(alloc, count, &reduced)? else {
             return Err(LinFault::Overflow);

@@ -3,7 +3,7 @@
 ghost use Rattle.std.specs.Prelude.{◌≡◌, IfOk, length};
 
 use crate::{PolyFault, contains, image_by_inverse, meet, minus, preimage, translate};
-use az_lin::{Conj, Domain, ExactRow, List, Map, Row, TryCopy};
+use az_lin::{Conj, Domain, ExactRow, LinFault, List, Map, NoInverse, Row, TryCopy};
 use std::alloc::Global;
 use std::test::Fail;
 
@@ -121,6 +121,65 @@ fn copies_composes_and_applies_maps(rt: HostRuntime) -> Result<(), Fail> {
     let twice = up.copy(alloc)?.compose(alloc, &up)?;
     match twice.rows() {
         [row] => assert_eq!(rt; ExactRow::from_row(alloc, row)?.konst(), 2),
+        _ => assert!(rt; false),
+    }
+    Ok(())
+}
+
+/// The map of one row without constant.
+fn form(alloc: Global, coefs: &[i128]) -> Result<Map, PolyFault>
+    ensures rows { IfOk result (λ map. length map.rows ≡ 1) }
+    ensures width { IfOk result (λ map. map.width ≡ length coefs.now) }
+{
+    let mut rows = List::new(alloc);
+    rows.push(Row::new(alloc, coefs, 0)?)?;
+    Ok(Map::new(coefs.len(), rows))
+}
+
+#[test]
+fn inverts_a_skewed_plane(rt: HostRuntime) -> Result<(), Fail> {
+    let alloc = rt.alloc();
+    let mut rows = List::new(alloc);
+    rows.push(Row::new(alloc, &[1, 0], 0)?)?;
+    rows.push(Row::new(alloc, &[1, 1], 0)?)?;
+    let inverse = Map::new(2, rows).invert(alloc, 0)?;
+    match inverse.rows() {
+        [first, second] => {
+            assert!(rt; first.coefs() == [1, 0].as_slice() && first.konst() == 0);
+            assert!(rt; second.coefs() == [-1, 1].as_slice() && second.konst() == 0);
+        }
+        _ => assert!(rt; false),
+    }
+    Ok(())
+}
+
+/// The numbers of a refusal, and the denominator, which is 0 for a kernel vector.
+fn evidence(answer: Result<Map, LinFault>) -> Option<(List<i128>, i128)> {
+    match answer {
+        Err(LinFault::NoInverse(NoInverse::Rational { nums, den })) => Some((nums, den)),
+        Err(LinFault::NoInverse(NoInverse::Kernel(vector))) => Some((vector, 0)),
+        _ => None,
+    }
+}
+
+#[test]
+fn refuses_to_invert(rt: HostRuntime) -> Result<(), Fail> {
+    let alloc = rt.alloc();
+    match evidence(form(alloc, &[2])?.invert(alloc, 0)) {
+        Some((nums, den)) => assert!(rt; nums.as_slice() == [1].as_slice() && den == 2),
+        None => assert!(rt; false),
+    }
+    match evidence(form(alloc, &[1, 0])?.invert(alloc, 1)) {
+        Some((vector, den)) => assert!(rt; vector.as_slice() == [1].as_slice() && den == 0),
+        None => assert!(rt; false),
+    }
+    let great = 1 << 59;
+    let mut rows = List::new(alloc);
+    rows.push(Row::new(alloc, &[great, 1, 0], 0)?)?;
+    rows.push(Row::new(alloc, &[1, great, 1], 0)?)?;
+    rows.push(Row::new(alloc, &[0, 1, great], 0)?)?;
+    match Map::new(3, rows).invert(alloc, 0) {
+        Err(LinFault::Overflow) => {}
         _ => assert!(rt; false),
     }
     Ok(())

@@ -1,4 +1,4 @@
-use Rattle.std.proofs.Common.{◌≡◌, ◌+◌, ◌<◌, ◌≤◌, ◌^◌, ◌∙◌, sym, ap, subst, ℕ, ℤ, pos, unsigned_abs, drop, arith}
+use Rattle.std.proofs.Common.{◌≡◌, ◌+◌, ◌<◌, ◌≤◌, ◌^◌, ◌∙◌, sym, ap, subst, pos, unsigned_abs, drop, arith}
 use Rattle.std.specs.Int.{int_div_euclid}
 use Rattle.az_lin.specs.Inversion.{entry, shared, columns_of, common_multiple, denominator_from}
 use Rattle.az_lin.proofs.Fractions.{lowest_is, lowest_wide, lowest_magnitude, pivots_here, denominator_next, denominator_low, multiple_low, quotient_nonzero}

@@ -1,8 +1,7 @@
-use Rattle.std.proofs.Common.{◌≡◌, ◌+◌, ◌<◌, ◌≤◌, ◌^◌, ◌∙◌, ◌++◌, ◌*ℤ◌, sym, ap, subst, ℕ, ℤ, pos, unsigned_abs, drop, arith, All, map, false, to_z, of_z, SFits, rules}
+use Rattle.std.proofs.Common.{◌≡◌, ◌∙◌, sym, subst, ℤ, pos, to_z, of_z, SFits, rules}
 use Rattle.std.proofs.lemmas.Bool.{false≢true}
 use Rattle.std.proofs.lemmas.Int.{to_z-of_z}
 use Rattle.std.specs.Int.{w128, int_div_euclid, IsNonZero}
-use Rattle.az_lin.specs.Affine.{IsWide}
 use Rattle.az_lin.specs.CommonDivisor.{gcd_of_all}
 use Rattle.az_lin.specs.Inversion.{entry, shared, columns_of, numerators}
 use Rattle.az_lin.proofs.Clearing.{word_is, nonzero_word}

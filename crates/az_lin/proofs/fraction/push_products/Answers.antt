@@ -1,4 +1,4 @@
-use Rattle.std.proofs.Common.{◌≡◌, ◌++◌, ◌*ℤ◌, ◌∙◌, ℤ, pos, sym, ap, ap₂, subst, get_or, All, SFits, to_z, of_z, rules, map, take, false}
+use Rattle.std.proofs.Common.{◌≡◌, ◌*ℤ◌, ◌∙◌, ℤ, pos, sym, subst, get_or, SFits, to_z, of_z, rules}
 use Rattle.std.proofs.lemmas.Bool.{false≢true}
 use Rattle.std.proofs.lemmas.Int.{to_z-of_z}
 use Rattle.std.proofs.lemmas.List.Elements.{All-get_or}

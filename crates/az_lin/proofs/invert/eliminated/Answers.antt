@@ -1,5 +1,5 @@
-use Rattle.std.proofs.Common.{◌≡◌, ◌∙◌, sym, ap, subst, ℕ, length, SomeIff, Option}
-use Rattle.az_lin.specs.Inversion.{Tableau, HasSize, start, final, reduced, ReducesWide}
+use Rattle.std.proofs.Common.{◌≡◌, sym, subst, ℕ, length, SomeIff, Option}
+use Rattle.az_lin.specs.Inversion.{Tableau, HasSize, start, reduced, ReducesWide}
 use Rattle.az_lin.proofs.TableauSteps.{ok_weaker}
 use Rattle.az_lin.proofs.InversionEnd.{HasSize-started, length-beside_identity}
 use Rattle.az_lin.proofs.invert.eliminated.Goals as goal

@@ -1,4 +1,4 @@
-use Rattle.std.proofs.Common.{◌≡◌, ◌+◌, ◌-◌, ◌*◌, ◌<◌, ◌≤◌, ◌++◌, [], ◌∷◌, ◌∙◌, zero, suc, sym, ap, ap₂, subst, ℕ, List, All, length, arith, rules, Err, append-nil}
+use Rattle.std.proofs.Common.{◌≡◌, ◌+◌, ◌-◌, ◌*◌, ◌≤◌, ◌++◌, [], ◌∷◌, ◌∙◌, suc, sym, ap, ap₂, subst, ℕ, List, All, length, arith, rules, Err, append-nil}
 use Rattle.std.proofs.lemmas.List.{length-drop}
 use Rattle.std.proofs.lemmas.List.Elements.{All-push, All-same}
 use Rattle.az_lin.specs.Affine.{Affine, AffineMap, HasEntries, HasWidth}

@@ -1,4 +1,4 @@
-use Rattle.std.proofs.Common.{◌≡◌, ◌<◌, ◌^◌, ◌++◌, [], ◌∷◌, ◌∙◌, sym, ap, ℕ, ℤ, pos, ◌-ℤ◌, map, arith, rules, false, to_z, of_z}
+use Rattle.std.proofs.Common.{◌≡◌, ◌++◌, [], ◌∷◌, ◌∙◌, sym, ap, ℕ, pos, ◌-ℤ◌, map, arith, to_z, of_z}
 use lib.IntN.{neg_ℤ}
 use Rattle.std.proofs.lemmas.Bool.{false≢true}
 use Rattle.std.proofs.lemmas.List.FromFn.{map-range_with_len_more}

@@ -1,4 +1,4 @@
-use Rattle.std.proofs.Common.{◌≡◌, ◌+◌, ◌-◌, ◌<◌, ◌^◌, ◌++◌, ◌∷◌, [], ◌∙◌, sym, ap, subst, suc, ℕ, ℤ, pos, ◌-ℤ◌, List, All, length, take, replicate, arith, rules, to_z, of_z, None, Some}
+use Rattle.std.proofs.Common.{◌≡◌, ◌-◌, ◌++◌, ◌∷◌, ◌∙◌, sym, ap, subst, suc, ℕ, pos, ◌-ℤ◌, List, All, length, take, replicate, rules, to_z, of_z}
 use lib.IntN.{neg_ℤ}
 use Rattle.std.specs.Int.{w128}
 use Rattle.std.specs.Vec.{vec_len}

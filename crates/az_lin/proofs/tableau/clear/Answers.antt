@@ -1,9 +1,9 @@
-use Rattle.std.proofs.Common.{◌≡◌, ◌<◌, ◌∙◌, sym, ap, subst, ℕ, pos, false, true, length, arith, get_or, rules, of_z, IsTrue, All, Some, None, take, SomeIff}
+use Rattle.std.proofs.Common.{◌≡◌, ◌<◌, ◌∙◌, sym, ap, subst, false, true, length, arith, get_or, of_z}
 use Rattle.std.proofs.lemmas.Bool.{false≢true}
 use Rattle.std.proofs.lemmas.List.Elements.{All-get_or}
 use Rattle.std.specs.Int.{w128}
 use Rattle.az_lin.specs.Affine.{Affine}
-use Rattle.az_lin.specs.Inversion.{reaches, entry, cleared, ClearsWide}
+use Rattle.az_lin.specs.Inversion.{reaches, cleared, ClearsWide}
 use Rattle.az_lin.proofs.Clearing.{reached_nonzero, unreached_zero, entry_read, zero_word, All-take_more, cleared_unreached, wide_unreached}
 use Rattle.az_lin.proofs.TableauSteps.{get_or_any, still_own, done_next, done_unchanged}
 use Rattle.az_lin.proofs.tableau.clear.Goals as goal

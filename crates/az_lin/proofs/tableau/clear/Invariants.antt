@@ -1,4 +1,4 @@
-use Rattle.std.proofs.Common.{◌≡◌, ◌<◌, ℕ, All, map, take, drop, ◌++◌}
+use Rattle.std.proofs.Common.{◌≡◌, All, map, take, drop, ◌++◌}
 use Rattle.az_lin.specs.Inversion.{cleared, ClearsWide}
 use Rattle.az_lin.proofs.tableau.clear.Given as goal
 

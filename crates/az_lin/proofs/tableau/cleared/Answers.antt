@@ -1,7 +1,5 @@
-use Rattle.std.proofs.Common.{◌≡◌, ◌<◌, ◌∙◌, sym, ap, ap₂, subst, ℤ, unsigned_abs, Some, None, SomeIff, Option}
-use Rattle.az_lin.specs.Affine.{Affine}
-use Rattle.az_lin.specs.Combination.{IsWideCombination, combination}
-use Rattle.az_lin.specs.Inversion.{reaches, entry, primitive, row_factor, pivot_factor, difference}
+use Rattle.std.proofs.Common.{◌≡◌, ◌∙◌, sym, ap, ap₂, Some, None}
+use Rattle.az_lin.specs.Inversion.{entry, primitive, row_factor, pivot_factor}
 use Rattle.az_lin.proofs.Substitution.{row_is}
 use Rattle.az_lin.proofs.Clearing.{word_is, entry_read, difference_is, cleared_reached}
 use Rattle.az_lin.proofs.tableau.cleared.Goals as goal

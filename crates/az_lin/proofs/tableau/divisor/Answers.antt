@@ -1,7 +1,6 @@
-use Rattle.std.proofs.Common.{◌≡◌, ◌<◌, ◌≤◌, ◌^◌, pos, ◌<ℤ◌, unsigned_abs, arith, ap, ◌∙◌, sym, subst, to_z, of_z}
+use Rattle.std.proofs.Common.{◌≡◌, ◌<◌, ◌≤◌, ◌^◌, pos, unsigned_abs, arith, ap, ◌∙◌, sym, subst}
 use Rattle.std.proofs.lemmas.Int.{ints, to_z_pos, fits_signed_from_abs}
 use Rattle.std.specs.Int.{w128}
-use Rattle.az_lin.specs.Affine.{IsWide}
 use Rattle.az_lin.specs.CommonDivisor.{gcd_of}
 use Rattle.az_lin.proofs.Clearing.{word_is, gcd_of-positive, gcd_of-le}
 use Rattle.az_lin.proofs.tableau.divisor.Goals as goal

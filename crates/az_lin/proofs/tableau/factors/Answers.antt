@@ -1,8 +1,8 @@
-use Rattle.std.proofs.Common.{◌≡◌, pos, neg_ℤ, ◌-ℤ◌, ◌<ℤ◌, ap, unsigned_abs, ◌∙◌, sym, subst, to_z, of_z, ℤ}
+use Rattle.std.proofs.Common.{◌≡◌, pos, ◌-ℤ◌, ◌<ℤ◌, ap, unsigned_abs, ◌∙◌, subst, to_z, of_z, ℤ}
 use Rattle.std.specs.Int.{w128, int_div_euclid}
 use Rattle.az_lin.specs.Affine.{IsWide}
 use Rattle.az_lin.specs.CommonDivisor.{gcd_of}
-use Rattle.az_lin.specs.Inversion.{row_factor, pivot_factor, common}
+use Rattle.az_lin.specs.Inversion.{row_factor, common}
 use Rattle.az_lin.proofs.Clearing.{word_is, negated_word, quotient_word, quotient_wide, positive_nonzero}
 use Rattle.az_lin.proofs.tableau.factors.Goals as goal
 

@@ -1,7 +1,6 @@
-use Rattle.std.proofs.Common.{◌≡◌, ◌≤◌, ◌<◌, ◌^◌, pos, arith, subst, ap, sym, ◌∙◌, rules, to_z, of_z}
-use Rattle.std.proofs.lemmas.Int.{ints, to_z-of_z, fits_signed_from_abs}
+use Rattle.std.proofs.Common.{◌≡◌, ◌≤◌, ◌<◌, ◌^◌, pos, subst, ap, sym, ◌∙◌, rules}
+use Rattle.std.proofs.lemmas.Int.{fits_signed_from_abs}
 use Rattle.std.specs.Int.{w128}
-use Rattle.az_lin.specs.Affine.{IsWide}
 use Rattle.az_lin.specs.CommonDivisor.{gcd_of_all}
 use Rattle.az_lin.proofs.Clearing.{gcd_of_all-wide, primitive_already}
 use Rattle.az_lin.proofs.tableau.primitive.Goals as goal

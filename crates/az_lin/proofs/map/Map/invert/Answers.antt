@@ -1,11 +1,14 @@
-use Rattle.std.proofs.Common.{◌≡◌, ◌+◌, ◌*◌, ◌<◌, ◌∙◌, [], sym, ap, subst, ℕ, pos, length, All, List, false, true, arith, rules}
+use Rattle.std.proofs.Common.{◌≡◌, ◌+◌, ◌<◌, ◌∙◌, sym, ap, subst, ℕ, length, All, List, Err, to_z, of_z, arith, rules}
 use Rattle.std.proofs.lemmas.Bool.{false≢true}
-use Rattle.std.proofs.lemmas.List.Elements.{All-same}
 use Rattle.az_lin.specs.Affine.{Affine, HasWidth}
-use Rattle.az_lin.specs.Inversion.{Tableau, HavePivots, final, inverse_numerators}
+use Rattle.az_lin.specs.Inversion.{Tableau, HavePivots, inverse_numerators}
 use Rattle.az_lin.proofs.InversionEnd.{final_sound, final_pivots, rest_some, rest_none, IsSound, length-inverse_numerators}
 use Rattle.az_lin.specs.InversionAnswer.{IsInversion}
-use Rattle.az_lin.proofs.Undone.{ok_undoes}
+use Rattle.az_lin.proofs.Undone.{ok_undoes, rational_undoes}
+use Rattle.std.specs.Int.{w128}
+use Rattle.az_lin.specs.declared.fault.LinFault.TheVariants.{NoInverse}
+use Rattle.az_lin.specs.declared.fault.NoInverse.TheVariants.{Kernel, Rational}
+use Rattle.az_lin.proofs.KernelLaws.{kernel_refused}
 use Rattle.az_lin.proofs.map.Map.invert.Goals as goal
 
 widths_of : (params width : ℕ) (rows counted : List Affine) → width ≡ params + length rows → counted ≡ rows → All (HasWidth width) counted → All (HasWidth (params + length rows)) rows
@@ -80,3 +83,16 @@ returns-then-den-eq1-clause-undone c =
     let wide = widths_of c.args.params c.args.self.now.width c.args.self.now.rows c.rows-count.result.now c.requires.square c.rows-count.ensures.value c.rows-count.ensures.widths in
     let exact : IsInversion c.args.params c.args.self.now c.inverse.result = search rules in
     λ p z long count. ok_undoes c.args.params c.args.self.now c.inverse.result p z wide exact long count
+
+pub returns-clause-rational : goal.returns-clause-rational
+returns-clause-rational c =
+    let wide = widths_of c.args.params c.args.self.now.width c.args.self.now.rows c.rows-count.result.now c.requires.square c.rows-count.ensures.value c.rows-count.ensures.widths in
+    let den = to_z w128 (of_z w128 c.in-Some-3.field-0.den) in
+    let exact : IsInversion c.args.params c.args.self.now (Err (NoInverse (Rational c.from_vec-nums.result den))) = search rules in
+    λ z count. rational_undoes c.args.params c.args.self.now c.from_vec-nums.result den z wide exact count
+
+pub returns-then-not-is_whole-clause-kernel : goal.returns-then-not-is_whole-clause-kernel
+returns-then-not-is_whole-clause-kernel c =
+    let wide = widths_of c.args.params c.args.self.now.width c.args.self.now.rows c.rows-count.result.now c.requires.square c.rows-count.ensures.value c.rows-count.ensures.widths in
+    let exact : IsInversion c.args.params c.args.self.now (Err (NoInverse (Kernel c.from_vec-vector.result))) = search rules in
+    kernel_refused c.args.params c.args.self.now c.from_vec-vector.result wide exact

@@ -1,4 +1,4 @@
-use Rattle.std.proofs.Common.{◌≡◌, ◌+◌, ◌-◌, ◌<◌, ◌≤◌, ◌↔◌, ◌∙◌, sym, ap, subst, ℕ, zero, suc, true, false, length, arith, rules, IsTrue}
+use Rattle.std.proofs.Common.{◌≡◌, ◌+◌, ◌-◌, ◌<◌, ◌∙◌, sym, ap, subst, suc, length, arith, rules}
 use Rattle.std.proofs.lemmas.Bool.{false≢true}
 use Rattle.az_lin.specs.Inversion.{Tableau, HasSize, step, StepsWide, reduced, ReducesWide}
 use Rattle.az_lin.proofs.TableauSteps.{HasSize-step, HasSize-own}

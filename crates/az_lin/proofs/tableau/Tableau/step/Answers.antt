@@ -1,7 +1,7 @@
 use Rattle.std.proofs.Common.{◌≡◌, ◌∙◌, sym, ap, subst, true, get_or}
 use Rattle.std.proofs.lemmas.List.Sums.{passes_at_first}
 use Rattle.az_lin.specs.Affine.{Affine}
-use Rattle.az_lin.specs.Inversion.{reaches, place_of}
+use Rattle.az_lin.specs.Inversion.{reaches}
 use Rattle.az_lin.proofs.tableau.Tableau.step.Goals as goal
 
 -- the row at the place that was found is the pivot, and has an entry in the column

@@ -92,3 +92,64 @@ fn each_kind_comes_at_its_item(rt: HostRuntime) -> Result<(), ShapeFault> {
     assert!(rt; is_shape(&fault, ShapeKind::InputEquation, 3));
     Ok(())
 }
+
+fn is_limit(fault: &Option<ShapeFault>, limit: Limit) -> bool {
+    match fault {
+        Some(ShapeFault::Limit(l)) => *l == limit,
+        _ => false,
+    }
+}
+
+/// A reduction of a constant over so many indices.
+fn reduced(alloc: Global, op: Op, extra: u32) -> Result<Expr, ShapeFault>
+    requires { extra < 100 }
+    ensures { IfOk result (λ e. IsAtWidth 2 (term e) 1) }
+{
+    let domain = space(alloc, 1 + extra as usize)?;
+    let body = Boxed::new(alloc, Expr::Const(5))?;
+    Ok(Expr::Reduce(op, extra, domain, body))
+}
+
+/// A read of the input at no indices.
+fn misread(alloc: Global) -> Expr
+    ensures { IsAtWidth 2 (term result) 1 }
+{
+    Expr::Access(0, Map::new(1, List::new(alloc)))
+}
+
+/// A constant under so many negations.
+fn negated(alloc: Global, times: u32) -> Result<Expr, ShapeFault>
+    ensures { IfOk result (λ e. IsAtWidth 2 (term e) 1) }
+{
+    let mut e = Expr::Const(5);
+    'times: for _ in 0..times {
+        e = Expr::Neg(Boxed::new(alloc, e)?);
+    }
+    Ok(e)
+}
+
+#[test]
+fn bodies_are_looked_at(rt: HostRuntime) -> Result<(), ShapeFault> {
+    let alloc = rt.alloc();
+    let fault = answer(alloc, "A", "X", one(alloc, 0, misread(alloc))?)?;
+    assert!(rt; is_shape(&fault, ShapeKind::Arity, 3));
+    let fault = answer(
+        alloc,
+        "A",
+        "X",
+        one(alloc, 1, reduced(alloc, Op::Sub, 15)?)?,
+    )?;
+    assert!(rt; is_shape(&fault, ShapeKind::BadReduce, 3));
+    let fault = answer(
+        alloc,
+        "i0",
+        "X",
+        one(alloc, 1, reduced(alloc, Op::Sub, 16)?)?,
+    )?;
+    assert!(rt; is_limit(&fault, Limit::Columns));
+    let fault = answer(alloc, "A", "X", one(alloc, 1, negated(alloc, 511)?)?)?;
+    assert!(rt; fault.is_none());
+    let fault = answer(alloc, "i0", "X", one(alloc, 0, negated(alloc, 512)?)?)?;
+    assert!(rt; is_limit(&fault, Limit::Size));
+    Ok(())
+}

@@ -11,5 +11,6 @@ pub mod ReadLemmas
 pub mod ShapeParts
 pub mod TableLemmas
 pub mod Terms
+pub mod TestParts
 pub mod ValueLemmas
 pub mod Walks

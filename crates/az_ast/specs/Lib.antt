@@ -13,5 +13,6 @@ pub mod Shapes
 pub mod System
 pub mod Tables
 pub mod Term
+pub mod TestParts
 pub mod Walks
 pub mod Writable

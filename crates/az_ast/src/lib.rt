@@ -19,6 +19,8 @@ mod point;
 mod program;
 mod reason;
 mod shape;
+#[cfg(test)]
+mod shape_tests;
 mod table;
 #[cfg(test)]
 mod tests;

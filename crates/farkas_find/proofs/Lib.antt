@@ -13,3 +13,8 @@ pub mod Gone
 pub mod Staged
 pub mod Sound
 pub mod Given
+pub mod InPlace
+pub mod Reduced
+pub mod Products
+pub mod Bounds
+pub mod Placing

@@ -4,6 +4,8 @@
 #![tactic(auto)]
 
 mod advance;
+mod back_substitute;
+mod bound;
 mod calls;
 mod choice;
 mod choose;
@@ -12,6 +14,7 @@ mod contradiction;
 mod counting;
 mod duplicates;
 mod fault;
+mod found;
 mod left;
 mod made;
 mod negative;
@@ -28,6 +31,7 @@ mod stored;
 #[cfg(test)]
 mod tests;
 mod trail;
+mod value;
 mod wide;
 mod within;
 

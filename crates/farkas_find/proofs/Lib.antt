@@ -18,3 +18,12 @@ pub mod Reduced
 pub mod Products
 pub mod Bounds
 pub mod Placing
+pub mod Values
+pub mod Sublists
+pub mod Taken
+pub mod Room
+pub mod Fills
+pub mod Opposite
+pub mod Untidied
+pub mod Open
+pub mod Ending

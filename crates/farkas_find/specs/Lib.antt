@@ -3,6 +3,7 @@ pub mod Combining
 pub mod Choosing
 pub mod Stages
 pub mod BackSubstitution
+pub mod Point
 pub mod Rows
 pub mod Answers
 pub mod Nexts

@@ -15,10 +15,12 @@ use Rattle.farkas_find.specs.declared.numbered.Numbered.{Numbered}
 use Rattle.farkas_find.specs.declared.choice.Choice.{Choice}
 use Rattle.farkas_find.specs.declared.trail.Stage.{Stage}
 use Rattle.farkas_find.specs.declared.trail.Eliminated.{Eliminated}
+use Rattle.farkas_find.specs.declared.trail.Ended.TheVariants.{Left}
+use Rattle.az_lin.specs.declared.step.Step.{Step}
 use Rattle.farkas_find.specs.Tidying.{row_at, is_zero, is_constant, is_at_least_as_strong, is_stronger, rounded, rounded_rows, stays, strongest, tidied}
 use Rattle.farkas_find.specs.Combining.{HaveWidth}
 use Rattle.farkas_find.specs.Choosing.{is_live, is_better, better_of, choice_by_pair, column_by_count, choice_of, is_free, free_columns}
-use Rattle.farkas_find.specs.Stages.{given_rows}
+use Rattle.farkas_find.specs.Stages.{given_rows, Finishes}
 use Rattle.farkas_find.specs.BackSubstitution.{origin, point_from, point_of, IsFoundWide}
 use Rattle.farkas_find.specs.Point.{rounded_system, EndsOpen}
 use Rattle.farkas_find.proofs.Paired.{left_of_and}
@@ -151,3 +153,15 @@ found_satisfies width given trail None widths ends h = tt
 found_satisfies width given trail (Some point) widths ends h =
     let P : RatPoint → Type 0 = Satisfies (rounded_system width given) in
     subst P (sym h.1) (point_satisfies width given trail widths ends h.0)
+
+-- stages that end without a refuting row end so
+pub ends_open : (width : ℕ) (given : List Affine) (left : List Numbered) (steps : List Step) (trail : List Eliminated)
+    → Finishes (free_columns None width) (given_rows given) (record { ended = Left left; steps = steps; trail = trail }) → EndsOpen width given trail
+ends_open width given left steps trail finishes = record {
+  number = finishes.number;
+  stage = finishes.stage;
+  reached = finishes.reached;
+  unrefuted = finishes.ends.0;
+  last = finishes.ends.1;
+  gone = finishes.trail;
+}

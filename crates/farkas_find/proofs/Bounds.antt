@@ -15,7 +15,7 @@ use Rattle.farkas_find.specs.Combining.{has_sign}
 use Rattle.farkas_find.specs.BackSubstitution.{from_side, bound_of, HasWideBound, CanBeTaken, magnitude, factor_at, tighter, tighter_of, AreComparable, CompareWide}
 use Rattle.farkas_find.specs.declared.bound.Bound.{Bound}
 
-nonzero_from_sign : (below : Bool) (z : ℤ) → has_sign below z ≡ true → pos 0 <ℤ magnitude z
+pub nonzero_from_sign : (below : Bool) (z : ℤ) → has_sign below z ≡ true → pos 0 <ℤ magnitude z
 nonzero_from_sign true z h = grind (arith, ints)
 nonzero_from_sign false z h = grind (arith, ints)
 

@@ -27,3 +27,12 @@ pub mod Placing
 pub mod Trails
 pub mod SmallPoint
 pub mod Decided
+pub mod Values
+pub mod Sublists
+pub mod Taken
+pub mod Room
+pub mod Fills
+pub mod Opposite
+pub mod Untidied
+pub mod Open
+pub mod Ending

@@ -4,6 +4,7 @@ pub mod Choosing
 pub mod Stages
 pub mod Nexts
 pub mod BackSubstitution
+pub mod Point
 pub mod Rows
 pub mod Answers
 pub mod Needed

@@ -1,7 +1,8 @@
 //! Back-substitution: the point that is found where no row refutes a system.
 
 ghost use Rattle.std.specs.Prelude.{◌≡◌, ◌<◌, ◌↔◌, ◌<ℤ◌, pos, length, All, IsTrue, SomeIff, IfSome, IfOk, IfErr, option_map};
-ghost use Rattle.az_lin.specs.RationalPoint.{IsWideAt};
+ghost use Rattle.az_lin.specs.RationalPoint.{IsWideAt, Satisfies};
+ghost use Rattle.farkas_find.specs.Point.{EndsOpen, rounded_system};
 ghost use Rattle.az_lin.specs.Affine.{HasWidth};
 ghost use Rattle.farkas_find.specs.Tidying.{rounded};
 ghost use Rattle.farkas_find.specs.BackSubstitution.{point_in, placed_by, placed, cleared, origin, point_of, factor_at, IsInside, IsDenominator, CanBeTaken, ScaledWide, PlacedWide, PointWide, IsFoundWide};
@@ -108,6 +109,7 @@ pub(crate) fn point(
     requires trail { All (IsInside width) trail.now }
     requires given { All (HasWidth width) given.now }
     ensures exact { IfOk result (λ got. SomeIff got (IsFoundWide width trail.now given.now) (point_of width trail.now)) }
+    ensures open_there { EndsOpen width given.now trail.now → IfOk result (λ got. IfSome got (λ point. Satisfies (rounded_system width given.now) point)) }
     ensures cause { IfErr result (λ fault. fault ≡ Memory) }
 {
     let Some(found) = found(alloc, width, trail)? else {

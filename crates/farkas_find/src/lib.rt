@@ -34,6 +34,8 @@ mod tests;
 mod trail;
 mod value;
 mod verdict;
+#[cfg(test)]
+mod verdict_tests;
 mod wide;
 mod within;
 

@@ -8,7 +8,7 @@ use crate::{FindFault, Left, WideRow, drop_column, range_rows, tidy};
 use az_lin::{Conj, Limit, List, Row};
 use std::alloc::Global;
 
-type Table<'a> = &'a [[i128; 4]];
+pub(crate) type Table<'a> = &'a [[i128; 4]];
 
 /// What a call should answer.
 #[derive(Clone, Copy)]
@@ -101,7 +101,7 @@ fn stored_row(alloc: Global, numbers: &[i128; 4]) -> Result<Row, FindFault>
     Ok(Row::new(alloc, &[numbers[0], numbers[1], numbers[2]], numbers[3])?)
 }
 
-fn stored(alloc: Global, table: Table<'_>) -> Result<Conj, FindFault>
+pub(crate) fn stored(alloc: Global, table: Table<'_>) -> Result<Conj, FindFault>
     ensures { IfOk result (λ conj. conj.width ≡ 3) }
 {
     let mut rows = Vec::with_capacity(alloc, table.len())?;

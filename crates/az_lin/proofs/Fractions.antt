@@ -121,7 +121,7 @@ pub All-back : {A : Type 0} (P : A → Type 0) (xs ys : List A) → All P (xs ++
 All-back P [] ys h = h
 All-back P (x ∷ xs) ys h = All-back P xs ys (All-tail P x (xs ++ ys) h)
 
-All-of_map : (P : ℤ → Type 0) (f : ℤ → ℤ) (xs : List ℤ) → All P (map f xs) → All (λ x. P (f x)) xs
+pub All-of_map : (P : ℤ → Type 0) (f : ℤ → ℤ) (xs : List ℤ) → All P (map f xs) → All (λ x. P (f x)) xs
 All-of_map P f [] h = All-nil (λ x. P (f x))
 All-of_map P f (x ∷ xs) h = All-cons (λ y. P (f y)) x xs (All-head P (f x) (map f xs) h) (All-of_map P f xs (All-tail P (f x) (map f xs) h))
 

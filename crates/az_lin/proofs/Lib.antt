@@ -16,3 +16,4 @@ pub mod InverseRows
 pub mod InversionEnd
 pub mod Undone
 pub mod KernelLaws
+pub mod LeastDenominator

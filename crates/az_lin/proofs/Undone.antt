@@ -177,7 +177,7 @@ neg_product n zero = omega (arith, ints)
 neg_product n (suc k) = omega (arith, ints)
 
 -- an exact quotient, whatever the sign of the divisor
-exact_over : (den : ℕ) (q : ℤ) → 0 < unsigned_abs q → unsigned_abs q ∣ den → q *ℤ int_div_euclid (pos den) q ≡ pos den
+pub exact_over : (den : ℕ) (q : ℤ) → 0 < unsigned_abs q → unsigned_abs q ∣ den → q *ℤ int_div_euclid (pos den) q ≡ pos den
 exact_over den (pos zero) some h = absurd (omega (arith, ints, some))
 exact_over den (pos (suc n)) some h = floor_exact (pos den) (pos (suc n)) (omega (arith, ints)) h
 exact_over den (negsuc n) some h =
@@ -191,7 +191,7 @@ dot-times f d (c ∷ cs) (x ∷ w) =
     let rest = dot (map (λ (y : ℤ). int_div_euclid y d) cs) w in
     omega (arith, ints, dot-times f d cs w, mul-add_int f (q *ℤ x) rest, mul_assoc_int f q x, ap (λ (m : ℤ). m *ℤ x) (mul_comm_int q f))
 
-shared_divides : (p : ℤ) (cs : List ℤ) → DividesEach (shared p cs) cs
+pub shared_divides : (p : ℤ) (cs : List ℤ) → DividesEach (shared p cs) cs
 shared_divides p cs = λ i d here. dvd_trans (shared p cs) (gcd_of-is_gcd (unsigned_abs p) (gcd_of_all cs)).1 ((gcd_of_all-is_gcd cs).divides i d here)
 
 pub rearranged : (d q f s : ℤ) → (d *ℤ q) *ℤ (f *ℤ s) ≡ (q *ℤ f) *ℤ (d *ℤ s)

@@ -1,11 +1,12 @@
 -- What the inversion of a map answers.
-use Rattle.std.specs.Prelude.{◌≡◌, ◌≢◌, ◌<◌, ◌^◌, ℕ, zero, suc, List, [], ◌∷◌, length, take, drop, map, All, ℤ, pos, ◌*ℤ◌, ◌<ℤ◌, Result, Ok, Err}
+use Rattle.std.specs.Prelude.{◌≡◌, ◌≢◌, ◌<◌, ◌*◌, ◌^◌, ℕ, zero, suc, List, [], ◌∷◌, length, take, drop, map, All, ℤ, pos, unsigned_abs, ◌*ℤ◌, ◌<ℤ◌, Result, Ok, Err}
 use Rattle.az_lin.specs.Affine.{Affine, AffineMap, IsWide, dot}
 use Rattle.az_lin.specs.Substitution.{HasEntryRows}
 use Rattle.az_lin.specs.Inversion.{Tableau, start, final, ReducesWide, kernel_vector, inverse_denominator, inverse_numerators, inverse_map}
 use Rattle.az_lin.specs.declared.fault.LinFault.{LinFault}
 use Rattle.az_lin.specs.declared.fault.LinFault.TheVariants.{Entry, NoInverse, Overflow, Memory}
 use Rattle.az_lin.specs.declared.fault.NoInverse.TheVariants.{Kernel, Rational}
+use Prim.Native.Nat.{◌∣◌}
 
 -- the numbers that are read off at the end are in range: those of the kernel vector where a row is left, and else the
 -- denominator and the numerators
@@ -53,6 +54,14 @@ TakesBack params f z (NoInverse (Kernel vector)) = Unit {0}
 TakesBack params f z Entry = Unit {0}
 TakesBack params f z Overflow = Unit {0}
 TakesBack params f z Memory = Unit {0}
+
+-- and the denominator is the least: each number that brings all the fractions to whole numbers is a multiple of it
+abbrev pub HasLeast : LinFault → Type 0
+HasLeast (NoInverse (Rational nums den)) = (m : ℕ) → All (λ x. unsigned_abs den ∣ m * unsigned_abs x) nums → unsigned_abs den ∣ m
+HasLeast (NoInverse (Kernel vector)) = Unit {0}
+HasLeast Entry = Unit {0}
+HasLeast Overflow = Unit {0}
+HasLeast Memory = Unit {0}
 
 -- a vector that isn't 0 and that the index part maps to 0
 pub record IsKernel (params : ℕ) (f : AffineMap) (vector : List ℤ) : Type 0 where

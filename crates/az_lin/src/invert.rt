@@ -5,7 +5,7 @@ ghost use Rattle.az_lin.specs.Affine.{IsWide, HasWidth, HasEntries, image_of};
 ghost use Rattle.az_lin.specs.Answers.{IsExactly};
 ghost use Rattle.az_lin.specs.Substitution.{Point, HasEntryRows};
 ghost use Rattle.az_lin.specs.Inversion.{HavePivots, start, final, ReducesWide, kernel_vector, inverse_denominator, inverse_numerators, inverse_row, inverse_rows};
-ghost use Rattle.az_lin.specs.InversionAnswer.{EndsWide, IsInversion, GoesToZero, TakesBack};
+ghost use Rattle.az_lin.specs.InversionAnswer.{EndsWide, IsInversion, GoesToZero, TakesBack, HasLeast};
 ghost use Rattle.az_lin.specs.declared.fault.LinFault.TheVariants.{Memory};
 
 use crate::fraction::{Part, denominator, numerators};
@@ -134,6 +134,7 @@ impl Map {
             → IfOk result (λ inverse. image_of inverse (p ++ image_of self.now (p ++ z)) ≡ z) }
         ensures kernel { IfErr result (λ fault. GoesToZero params self.now fault) }
         ensures rational { (z : Point) → length z ≡ length self.now.rows → IfErr result (λ fault. TakesBack params self.now z fault) }
+        ensures least { IfErr result (λ fault. HasLeast fault) }
     {
         let count = self.rows().len();
         let Some(reduced) = eliminated(alloc, params, self)? else {

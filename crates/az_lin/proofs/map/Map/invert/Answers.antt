@@ -9,6 +9,7 @@ use Rattle.std.specs.Int.{w128}
 use Rattle.az_lin.specs.declared.fault.LinFault.TheVariants.{NoInverse}
 use Rattle.az_lin.specs.declared.fault.NoInverse.TheVariants.{Kernel, Rational}
 use Rattle.az_lin.proofs.KernelLaws.{kernel_refused}
+use Rattle.az_lin.proofs.LeastDenominator.{rational_least}
 use Rattle.az_lin.proofs.map.Map.invert.Goals as goal
 
 widths_of : (params width : ℕ) (rows counted : List Affine) → width ≡ params + length rows → counted ≡ rows → All (HasWidth width) counted → All (HasWidth (params + length rows)) rows
@@ -90,6 +91,13 @@ returns-clause-rational c =
     let den = to_z w128 (of_z w128 c.in-Some-3.field-0.den) in
     let exact : IsInversion c.args.params c.args.self.now (Err (NoInverse (Rational c.from_vec-nums.result den))) = search rules in
     λ z count. rational_undoes c.args.params c.args.self.now c.from_vec-nums.result den z wide exact count
+
+pub returns-clause-least : goal.returns-clause-least
+returns-clause-least c =
+    let wide = widths_of c.args.params c.args.self.now.width c.args.self.now.rows c.rows-count.result.now c.requires.square c.rows-count.ensures.value c.rows-count.ensures.widths in
+    let den = to_z w128 (of_z w128 c.in-Some-3.field-0.den) in
+    let exact : IsInversion c.args.params c.args.self.now (Err (NoInverse (Rational c.from_vec-nums.result den))) = search rules in
+    rational_least c.args.params c.args.self.now c.from_vec-nums.result den wide exact
 
 pub returns-then-not-is_whole-clause-kernel : goal.returns-then-not-is_whole-clause-kernel
 returns-then-not-is_whole-clause-kernel c =

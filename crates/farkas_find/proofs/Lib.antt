@@ -13,3 +13,4 @@ pub mod Gone
 pub mod Staged
 pub mod Sound
 pub mod Given
+pub mod Winning

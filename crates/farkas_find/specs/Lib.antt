@@ -5,3 +5,4 @@ pub mod Stages
 pub mod Rows
 pub mod Answers
 pub mod Nexts
+pub mod Winners

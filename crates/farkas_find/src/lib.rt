@@ -29,6 +29,7 @@ mod stored;
 mod tests;
 mod trail;
 mod wide;
+mod winners;
 mod within;
 
 pub use calls::{drop_column, range_rows, tidy};

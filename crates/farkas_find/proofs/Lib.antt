@@ -14,3 +14,4 @@ pub mod Staged
 pub mod Sound
 pub mod Given
 pub mod Winning
+pub mod Alone

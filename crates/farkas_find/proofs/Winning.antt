@@ -1,6 +1,6 @@
 -- The strongest rows by a look-up: one more row, and what the look-up says of each row in the end.
-use Rattle.std.proofs.Common.{◌≡◌, ◌≢◌, ℕ, ◌+◌, ◌<◌, ◌≤◌, ap, refl, sym, ◌∙◌, subst, arith, Bool, true, false, cond, not, ◌&&◌, nat_eq, List, length, take, drop, get_or, length-drop, ℤ, ◌≤ℤ◌, ◌<ℤ◌, int_le, int_lt, pos, [], ◌-◌, Option, Some, None}
-use Rattle.std.specs.List.{list_any, Any}
+use Rattle.std.proofs.Common.{◌≡◌, ◌≢◌, ℕ, ◌+◌, ◌<◌, ◌≤◌, ap, refl, sym, ◌∙◌, subst, arith, Bool, true, false, cond, not, ◌&&◌, nat_eq, List, length, take, drop, length-drop, ℤ, ◌≤ℤ◌, ◌<ℤ◌, int_le, int_lt, pos, [], ◌-◌, Option, Some, None}
+use Rattle.std.specs.List.{list_any}
 use Rattle.std.specs.Ordering.{int_eq}
 use Rattle.std.specs.Cmp.Lexicographic.{pointwise}
 use Rattle.std.specs.Cmp.Rules.{signed_items}

@@ -36,3 +36,5 @@ pub mod Opposite
 pub mod Untidied
 pub mod Open
 pub mod Ending
+pub mod Winning
+pub mod Alone

@@ -92,10 +92,10 @@ unrefuted z next place rows all found =
     not_refuting z (get_or (rounded_rows next rows) place nothing) (holds place nothing there.0) there.1
 
 -- what is handed out
-handed : (z : List ℤ) (rows : List Numbered) (left : List WideRow) → Every (IsAtLeastZero z) rows → AreRows rows left → All (IsAtLeastZero z) (map affine_of left)
-handed z rows left all are =
-    let P : List Affine → Type 0 = All (IsAtLeastZero z) in
-    subst P (sym are) (All-map (IsAtLeastZero z) (λ (it : Numbered). it.row) rows all)
+pub handed : (Q : Affine → Type 0) (rows : List Numbered) (left : List WideRow) → Every Q rows → AreRows rows left → All Q (map affine_of left)
+handed Q rows left all are =
+    let P : List Affine → Type 0 = All Q in
+    subst P (sym are) (All-map Q (λ (it : Numbered). it.row) rows all)
 
 refuted : (z : List ℤ) (next : ℕ) (rows : List Numbered) → Every (IsAtLeastZero z) rows → IsSome (contradiction_in next rows) → ⊥
 refuted z next rows all some =
@@ -105,7 +105,7 @@ pub tidy-sound : (z : List ℤ) (rows : List Affine) (result : Result Left FindF
     → IfOk result (λ left. All (IsAtLeastZero z) rows → HoldsIn z left)
 tidy-sound z rows (Ok Contradiction) h = λ all. refuted z (length (given_rows rows)) (given_rows rows) (Every-given (IsAtLeastZero z) rows all) h.1
 tidy-sound z rows (Ok (Rows left)) h =
-    λ all. handed z (tidied (length (given_rows rows)) (given_rows rows)) left
+    λ all. handed (IsAtLeastZero z) (tidied (length (given_rows rows)) (given_rows rows)) left
     (holds-tidied z (length (given_rows rows)) (given_rows rows) (Every-given (IsAtLeastZero z) rows all)) h.1.1
 tidy-sound z rows (Err fault) h = tt
 
@@ -119,7 +119,7 @@ drop-sound z width column rows (Ok (Rows left)) inside widths h =
     let tidy : List Numbered = tidied_rows stage in
     let choice : Choice = choice_in column tidy in
     let pairs : All (IsPair choice.column tidy) (pairs_for choice tidy) = pairs_for-are_pairs width tidy choice (choice_in-is_choice width column tidy inside) in
-    handed z (rows_after choice stage) left
+    handed (IsAtLeastZero z) (rows_after choice stage) left
     (holds-next_rows z width choice (length given + length (rounding_steps given)) tidy (HaveWidth-tidied width (length given) given widths) pairs
     (holds-tidied z (length given) given (Every-given (IsAtLeastZero z) rows all)))
     h.1.rows
@@ -154,7 +154,7 @@ range-sound z kept width rows (Ok Contradiction) widths h =
 range-sound z kept width rows (Ok (Rows left)) widths h =
     λ all.
     let last : Stage = h.1 in
-    handed z (tidied_rows last) left
+    handed (IsAtLeastZero z) (tidied_rows last) left
     (holds-tidied z last.next last.rows (reached-holds z kept width (given_rows rows) widths (Every-given (IsAtLeastZero z) rows all) h.0 last h.2).1)
     h.3.2
 range-sound z kept width rows (Err fault) widths h = tt

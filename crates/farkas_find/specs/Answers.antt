@@ -1,6 +1,6 @@
 -- What the calls answer.
-use Rattle.std.specs.Prelude.{◌≡◌, ℕ, List, length, map, All, None, Some, IsSome, Result, Ok, Err, ℤ, ◌⊎◌}
-use Rattle.az_lin.specs.Affine.{IsAtLeastZero}
+use Rattle.std.specs.Prelude.{◌≡◌, ℕ, List, length, map, All, None, Some, IsSome, Result, Ok, Err, ℤ, ◌⊎◌, ◌≢◌, ◌<◌, pos, slice_index_or}
+use Rattle.az_lin.specs.Affine.{Affine, IsAtLeastZero}
 use Rattle.az_lin.specs.declared.limit.Limit.TheVariants.{Rows as TooManyRows}
 use Rattle.farkas_find.specs.Tidying.{row_at, rounded_rows, contradiction_in, tidied}
 use Rattle.farkas_find.specs.Choosing.{pair_in, choice_of}
@@ -86,3 +86,11 @@ RangeAnswers columns given (Ok left) = (s : ℕ) × (stage : Stage) × IsReached
 RangeAnswers columns given (Err (Overflow s)) = LeavesRangeAt columns given s
 RangeAnswers columns given (Err (Limit limit)) = (limit ≡ TooManyRows) × PassesLimit columns given
 RangeAnswers columns given (Err Memory) = Unit {0}
+
+-- no row that is left has a column but this one
+abbrev pub LacksOthers : ℕ → ℕ → Affine → Type 0
+LacksOthers width column row = (other : ℕ) → other < width → other ≢ column → slice_index_or row.coefs other (pos 0) ≡ pos 0
+
+abbrev pub HasOnly : ℕ → ℕ → Left → Type 0
+HasOnly width column Contradiction = Unit {0}
+HasOnly width column (Rows left) = All (LacksOthers width column) (map affine_of left)

@@ -9,3 +9,4 @@ pub mod Rows
 pub mod Answers
 pub mod Needed
 pub mod Verdict
+pub mod Winners

@@ -7,7 +7,7 @@ ghost use Rattle.farkas_find.specs.Combining.{HaveWidth};
 ghost use Rattle.farkas_find.specs.Rows.{affine_of, HasWideRow, HaveOneWidth};
 ghost use Rattle.farkas_find.specs.Choosing.{free_columns};
 ghost use Rattle.farkas_find.specs.Stages.{given_rows};
-ghost use Rattle.farkas_find.specs.Answers.{TidyAnswers, DropAnswers, RangeAnswers, HoldsIn};
+ghost use Rattle.farkas_find.specs.Answers.{TidyAnswers, DropAnswers, RangeAnswers, HoldsIn, HasOnly};
 
 use crate::range::range_given;
 use crate::single::{drop_given, tidy_given};
@@ -62,6 +62,7 @@ pub fn range_rows(alloc: Global, system: &Conj, column: u32) -> Result<Left, Fin
     requires narrow { system.now.width ≤ 4096 }
     ensures exact { RangeAnswers (free_columns (Some column) system.now.width) (given_rows system.now.rows) result }
     ensures sound { (z : Point) → IfOk result (λ left. Holds system.now z → HoldsIn z left) }
+    ensures alone { IfOk result (λ left. HasOnly system.now.width column left) }
 {
     let given = stored_rows(alloc, system.rows())?;
     range_given(alloc, given, column as usize, system.width())

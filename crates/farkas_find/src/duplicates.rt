@@ -5,6 +5,7 @@ ghost use Rattle.std.specs.List.{list_any, range_with_len};
 ghost use Rattle.farkas_find.specs.Tidying.{row_at, is_constant, is_refuting, is_at_least_as_strong, is_stronger, stays, strongest};
 
 use crate::numbered::Numbered;
+use crate::winners::winning_flags;
 use std::alloc::{AllocError, Global};
 
 /// Whether no coefficient is nonzero.
@@ -60,8 +61,11 @@ fn stays(rows: &[Numbered], place: usize) -> bool
     !is_constant(it) && !any_as_strong(it, &rows[..place]) && !any_stronger(it, &rows[place + 1..])
 }
 
+/// The most rows that are compared each with each. A map finds equal coefficients where there are more.
+const FEW_ROWS: usize = 16;
+
 /// For each place, whether tidying leaves its row.
-fn flags(alloc: Global, rows: &[Numbered]) -> Result<Vec<bool>, AllocError>
+fn flags_by_pairs(alloc: Global, rows: &[Numbered]) -> Result<Vec<bool>, AllocError>
     ensures { IfOk result (λ got. got.items ≡ map (stays rows.now) (range_with_len 0 (length rows.now))) }
 {
     let mut flags = Vec::with_capacity(alloc, rows.len())?;
@@ -69,6 +73,16 @@ fn flags(alloc: Global, rows: &[Numbered]) -> Result<Vec<bool>, AllocError>
         flags.push(stays(rows, place))?;
     }
     Ok(flags)
+}
+
+fn flags(alloc: Global, rows: &[Numbered]) -> Result<Vec<bool>, AllocError>
+    ensures { IfOk result (λ got. got.items ≡ map (stays rows.now) (range_with_len 0 (length rows.now))) }
+{
+    if rows.len() <= FEW_ROWS {
+        flags_by_pairs(alloc, rows)
+    } else {
+        winning_flags(alloc, rows)
+    }
 }
 
 /// The rows that tidying leaves, where they are rounded already.

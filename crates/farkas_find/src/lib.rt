@@ -37,6 +37,7 @@ mod verdict;
 #[cfg(test)]
 mod verdict_tests;
 mod wide;
+mod winners;
 mod within;
 
 pub use calls::{drop_column, range_rows, tidy};

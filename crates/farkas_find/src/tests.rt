@@ -153,6 +153,33 @@ fn leaves_out_weaker_rows(rt: HostRuntime) -> Result<(), FindFault> {
     Ok(())
 }
 
+/// Whether tidying leaves so of rows with three lists of coefficients, whose constants fall or stay.
+fn tidies_many(
+    alloc: Global,
+    count: u32,
+    falling: bool,
+    wanted: Wanted<'_>,
+) -> Result<bool, FindFault> {
+    let mut rows = Vec::new(alloc);
+    'rows: for number in 0..count {
+        let konst = if falling { -i128::from(number) } else { 0 };
+        rows.push([i128::from(number % 3), 1, 0, konst])?;
+    }
+    tidies(alloc, rows.as_slice(), wanted)
+}
+
+#[test]
+fn leaves_out_weaker_rows_of_many(rt: HostRuntime) -> Result<(), FindFault> {
+    let alloc = rt.alloc();
+    let last = [[0, 1, 0, -27], [1, 1, 0, -28], [2, 1, 0, -29]];
+    assert!(rt; tidies_many(alloc, 30, true, Wanted::Rows(&last))?);
+    let first = [[0, 1, 0, 0], [1, 1, 0, 0], [2, 1, 0, 0]];
+    assert!(rt; tidies_many(alloc, 30, false, Wanted::Rows(&first))?);
+    assert!(rt; tidies_many(alloc, 20_000, false, Wanted::Rows(&first))?);
+    assert!(rt; tidies_many(alloc, 20_001, false, Wanted::TooMany)?);
+    Ok(())
+}
+
 #[test]
 fn drops_columns(rt: HostRuntime) -> Result<(), FindFault> {
     let alloc = rt.alloc();

@@ -9,6 +9,7 @@ use Rattle.farkas_find.specs.Answers.{RangeAnswers}
 use Rattle.farkas_find.proofs.Keeping.{Every-given}
 use Rattle.farkas_find.proofs.Widths.{HasLength}
 use Rattle.farkas_find.proofs.Sound.{range-sound}
+use Rattle.farkas_find.proofs.Alone.{range-alone}
 use Rattle.farkas_find.proofs.calls.range_rows.Goals as goal
 
 width_of_stored : (width : ℕ) (rows : List Affine) (given : List Numbered) → All (HasLength width) rows → given ≡ given_rows rows → HaveWidth width given
@@ -36,3 +37,8 @@ returns-clause-sound c =
     let V : List Numbered → Type 0 = HaveWidth system.width in
     let widths : HaveWidth system.width c.in_ok-given.given.items = width_of_stored system.width c.rows.result.now c.in_ok-given.given.items c.rows.ensures.widths c.in_ok-given.ensures.answer.1 in
     λ z. range-sound z (Some c.args.column) system.width system.rows c.range_given.result (subst V is widths) (subst P is (subst W c.width.ensures c.range_given.ensures))
+
+pub returns-clause-alone : goal.returns-clause-alone
+returns-clause-alone c =
+    let W : ℕ → Type 0 = λ width. RangeAnswers (free_columns (Some c.args.column) width) c.in_ok-given.given.items c.range_given.result in
+    range-alone c.args.column c.args.system.now.width c.in_ok-given.given.items c.range_given.result (subst W c.width.ensures c.range_given.ensures)

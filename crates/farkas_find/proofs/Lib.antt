@@ -36,3 +36,4 @@ pub mod Opposite
 pub mod Untidied
 pub mod Open
 pub mod Ending
+pub mod OneVerdict

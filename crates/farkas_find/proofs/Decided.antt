@@ -10,9 +10,16 @@ use Rattle.farkas_find.specs.declared.numbered.Numbered.{Numbered}
 use Rattle.farkas_find.specs.declared.trail.Stage.{Stage}
 use Rattle.farkas_find.specs.declared.trail.Eliminated.{Eliminated}
 use Rattle.farkas_find.specs.declared.trail.Ended.{Ended}
-use Rattle.farkas_find.specs.declared.trail.Ended.TheVariants.{Refuted}
+use Rattle.farkas_find.specs.declared.trail.Ended.TheVariants.{Refuted, Left}
 use Rattle.farkas_find.specs.declared.trail.Finished.{Finished}
+use Rattle.std.specs.Prelude.{IfOk}
+use Rattle.az_lin.specs.RationalPoint.{Satisfies}
+use Rattle.az_lin.specs.declared.step.RatPoint.{RatPoint}
+use Rattle.farkas_find.specs.Point.{rounded_system, EndsOpen}
+use Rattle.farkas_find.proofs.Ending.{point_satisfies, ends_open}
+use Rattle.farkas_find.proofs.OneVerdict.{one_verdict}
 use Rattle.farkas_find.specs.declared.verdict.Decision.{Decision}
+use Rattle.farkas_find.specs.declared.verdict.Decision.TheVariants.{Refuted as RefutedBy, Point}
 use Rattle.farkas_find.specs.declared.fault.FindFault.{FindFault}
 use Rattle.farkas_find.specs.declared.fault.FindFault.TheVariants.{Overflow, Limit, Memory}
 use Rattle.farkas_find.specs.Tidying.{rounding_steps}
@@ -20,8 +27,8 @@ use Rattle.farkas_find.specs.Combining.{HaveWidth}
 use Rattle.farkas_find.specs.Choosing.{free_columns}
 use Rattle.farkas_find.specs.Stages.{HasFew, given_rows, Finishes}
 use Rattle.farkas_find.specs.Needed.{derivation_of}
-use Rattle.farkas_find.specs.BackSubstitution.{IsInside}
-use Rattle.farkas_find.specs.Verdict.{StagesEnd, IsRefutedBy, Decides, IsSmallRow, IsSmallSystem, IsNoOverflow}
+use Rattle.farkas_find.specs.BackSubstitution.{IsInside, IsFoundWide, point_of}
+use Rattle.farkas_find.specs.Verdict.{StagesEnd, IsRefutedBy, HasPoint, ExcludesOther, Decides, IsSmallRow, IsSmallSystem, IsNoOverflow}
 use Rattle.farkas_find.proofs.Numbering.{length-numbered_from}
 use Rattle.farkas_find.proofs.Rounded.{length-rounding_steps}
 use Rattle.farkas_find.proofs.Keeping.{Every-given}
@@ -42,6 +49,7 @@ rows_have_width width its rows items same is all =
 -- the end of a system's stages, and what goes with it
 pub record Judged (system : Polyhedron) (ended : Ended) (steps : List Step) (trail : List Eliminated) : Type 0 where
   pub ends : StagesEnd system ended steps trail
+  pub widths : All (HasWidth system.width) system.rows
   pub wide : All HasWideEntries system.rows
   pub few : length system.rows + length steps < 2 ^ 32
   pub inside : All (IsInside system.width) trail
@@ -61,6 +69,7 @@ facts_of system ended steps trail narrow widths wide few ends =
     let P : List Eliminated → Type 0 = All (IsInside system.width) in
     record {
       ends = ends;
+      widths = widths;
       wide = wide;
       few = omega (arith, log, logged.next_is, next, length-rounding_steps stage.rows, inside.stands.few, rows_few);
       inside = subst P (sym ends.trail) inside.trail;
@@ -99,6 +108,30 @@ refutes system number log trail rows seen steps all rows_are seen_is is =
       stated = stated;
       valid = subst P (sym stated) (refuted-derives system.rows number log all.wide (refuted_in system number log trail all));
     }
+
+pub opens : (system : Polyhedron) (left : List Numbered) (log : List Step) (trail : List Eliminated) (width : ℕ) (rows : List Affine) (seen : List Eliminated) (point : RatPoint)
+    → Judged system (Left left) log trail → width ≡ system.width → rows ≡ system.rows → seen ≡ trail
+    → IsFoundWide width seen rows × (point ≡ point_of width seen) → HasPoint system point
+opens system left log trail width rows seen point all width_is rows_are seen_is found =
+    let P : ℕ → Type 0 = λ w. IsFoundWide w seen rows × (point ≡ point_of w seen) in
+    let Q : List Eliminated → Type 0 = λ t. IsFoundWide system.width t rows × (point ≡ point_of system.width t) in
+    let R : List Affine → Type 0 = λ rs. IsFoundWide system.width trail rs in
+    let S : RatPoint → Type 0 = Satisfies (rounded_system system.width system.rows) in
+    let here = subst Q seen_is (subst P width_is found) in
+    let wide : IsFoundWide system.width trail system.rows = subst R rows_are here.0 in
+    let ends : EndsOpen system.width system.rows trail = ends_open system.width system.rows left log trail all.ends in
+    record {
+      trail = trail;
+      unrefuted = record { left = left; log = log; ends = all.ends };
+      wide = wide;
+      stated = here.1;
+      meets = subst S (sym here.1) (point_satisfies system.width system.rows trail all.widths ends wide);
+    }
+
+pub excludes_other : (system : Polyhedron) (result : Result Decision FindFault) → Decides system result → IfOk result (ExcludesOther system)
+excludes_other system (Ok (RefutedBy derivation)) decides = λ point is_open. one_verdict system derivation.steps is_open.trail decides is_open.unrefuted
+excludes_other system (Ok (Point point)) decides = λ steps refuted. one_verdict system steps decides.trail refuted decides.unrefuted
+excludes_other system (Err fault) decides = tt
 
 small_rows : (rows : List Affine) → All IsSmallRow rows → All (IsSmall 3) rows
 small_rows rows all = All-weaker IsSmallRow (IsSmall 3) (λ row (h : IsSmallRow row). let s : IsSmall 3 row = record { coefficients = h.0; constant = h.1 } in s) rows all

@@ -38,3 +38,4 @@ pub mod Open
 pub mod Ending
 pub mod Winning
 pub mod Alone
+pub mod OneVerdict

@@ -3,6 +3,7 @@
 use Rattle.std.specs.Prelude.{◌≡◌, ℕ, ◌≤◌, List, length, All, unsigned_abs, None, Result, Ok, Err, ◌⊎◌}
 use Rattle.az_lin.specs.Affine.{Affine, Polyhedron}
 use Rattle.az_lin.specs.Derivation.{IsStep, IsDerivation}
+use Rattle.az_lin.specs.RationalPoint.{Satisfies}
 use Rattle.az_lin.specs.declared.step.Step.{Step}
 use Rattle.az_lin.specs.declared.step.RatPoint.{RatPoint}
 use Rattle.az_lin.specs.declared.limit.Limit.TheVariants.{Rows as TooManyRows}
@@ -10,6 +11,7 @@ use Rattle.farkas_find.specs.Choosing.{free_columns}
 use Rattle.farkas_find.specs.Stages.{given_rows, Finishes, LeavesRangeAt, PassesLimit}
 use Rattle.farkas_find.specs.Needed.{derivation_of}
 use Rattle.farkas_find.specs.BackSubstitution.{point_of, IsFoundWide}
+use Rattle.farkas_find.specs.Point.{rounded_system}
 use Rattle.farkas_find.specs.declared.numbered.Numbered.{Numbered}
 use Rattle.farkas_find.specs.declared.trail.Eliminated.{Eliminated}
 use Rattle.farkas_find.specs.declared.trail.Ended.{Ended}
@@ -39,12 +41,19 @@ pub record IsUnrefuted (system : Polyhedron) (trail : List Eliminated) : Type 0 
   pub log : List Step
   pub ends : StagesEnd system (Left left) log trail
 
--- no row refutes the system, and this is the point
+-- A point is open for a system if no row refutes the system and the point meets the rounded rows.
+pub record IsOpen (system : Polyhedron) (point : RatPoint) : Type 0 where
+  pub trail : List Eliminated
+  pub unrefuted : IsUnrefuted system trail
+  pub meets : Satisfies (rounded_system system.width system.rows) point
+
+-- no row refutes the system, and this is the point, which meets the rounded rows
 pub record HasPoint (system : Polyhedron) (point : RatPoint) : Type 0 where
   pub trail : List Eliminated
   pub unrefuted : IsUnrefuted system trail
   pub wide : IsFoundWide system.width trail system.rows
   pub stated : point ≡ point_of system.width trail
+  pub meets : Satisfies (rounded_system system.width system.rows) point
 
 -- the numbers of back-substitution belong to the last stage, the one after all that eliminated a column
 pub record LosesPoint (system : Polyhedron) (stage : ℕ) : Type 0 where
@@ -73,3 +82,8 @@ IsNoOverflow (Ok decision) = Unit {0}
 IsNoOverflow (Err (Overflow stage)) = ⊥
 IsNoOverflow (Err (Limit limit)) = Unit {0}
 IsNoOverflow (Err Memory) = Unit {0}
+
+-- where one of the two answers is right, the other isn't
+abbrev pub ExcludesOther : Polyhedron → Decision → Type 0
+ExcludesOther system (RefutedBy derivation) = (point : RatPoint) → ¬ IsOpen system point
+ExcludesOther system (Point point) = (steps : List Step) → ¬ IsRefutedBy system steps

@@ -1,8 +1,8 @@
 //! The verdict on a system of rows.
 
-ghost use Rattle.std.specs.Prelude.{◌≡◌, ◌≤◌, All};
+ghost use Rattle.std.specs.Prelude.{◌≡◌, ◌≤◌, All, IfOk};
 ghost use Rattle.az_lin.specs.Affine.{HasWidth};
-ghost use Rattle.farkas_find.specs.Verdict.{Decides, IsSmallSystem, IsNoOverflow};
+ghost use Rattle.farkas_find.specs.Verdict.{Decides, ExcludesOther, IsSmallSystem, IsNoOverflow};
 
 use crate::FindFault;
 use crate::back_substitute::point;
@@ -17,7 +17,7 @@ use std::alloc::Global;
 pub enum Decision {
     /// A derivation refutes the system: no whole point satisfies it.
     Refuted(Derivation),
-    /// No row refutes the system, and this is the point of back-substitution.
+    /// No row refutes the system, and this point meets its rows, rounded.
     Point(RatPoint),
 }
 
@@ -47,6 +47,7 @@ fn judge(alloc: Global, system: &Conj) -> Result<Decision, FindFault>
 pub fn decide(alloc: Global, system: &Conj) -> Result<Decision, FindFault>
     requires narrow { system.now.width ≤ 4096 }
     ensures answer { Decides system.now result }
+    ensures one { IfOk result (ExcludesOther system.now) }
     ensures small { IsSmallSystem system.now → IsNoOverflow result }
 {
     judge(alloc, system)

@@ -1,5 +1,8 @@
-use Rattle.farkas_find.proofs.Decided.{small_never_overflows}
+use Rattle.farkas_find.proofs.Decided.{small_never_overflows, excludes_other}
 use Rattle.farkas_find.proofs.verdict.decide.Goals as goal
 
 pub returns-clause-small : goal.returns-clause-small
 returns-clause-small c = small_never_overflows c.args.system.now c.judge.result c.judge.ensures.widths c.judge.ensures.answer
+
+pub returns-clause-one : goal.returns-clause-one
+returns-clause-one c = excludes_other c.args.system.now c.judge.result c.judge.ensures.answer

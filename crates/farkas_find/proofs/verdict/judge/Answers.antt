@@ -2,7 +2,7 @@ use Rattle.std.proofs.Common.{◌≤◌, arith, length}
 use Rattle.farkas_find.specs.declared.trail.Ended.TheVariants.{Refuted, Left}
 use Rattle.farkas_find.proofs.Numbering.{length-numbered_from}
 use Rattle.farkas_find.proofs.Pruning.{names_before}
-use Rattle.farkas_find.proofs.Decided.{rows_have_width, judged, refuted_in, refutes}
+use Rattle.farkas_find.proofs.Decided.{rows_have_width, judged, refuted_in, refutes, opens}
 use Rattle.farkas_find.proofs.verdict.judge.Goals as goal
 
 pub run_stages-requires-clause-widths : goal.run_stages-requires-clause-widths
@@ -52,3 +52,11 @@ overflow_cast-result c =
     let all = judged c.args.system.now c.width-width.result c.rows-given.result.now c.in_ok-rows.rows.items c.in_ok-finished.finished (Left c.in-Left.field-0)
     c.width-width.ensures c.requires.narrow c.rows-given.ensures.value c.rows-given.ensures.widths c.in_ok-rows.ensures.range c.in_ok-rows.ensures.answer c.in_ok-finished.ensures c.in-Left.is in
     omega (arith, all.short, c.len.ensures)
+
+pub returns-in-Some-clause-answer : goal.returns-in-Some-clause-answer
+returns-in-Some-clause-answer c =
+    let all = judged c.args.system.now c.width-width.result c.rows-given.result.now c.in_ok-rows.rows.items c.in_ok-finished.finished (Left c.in-Left.field-0)
+    c.width-width.ensures c.requires.narrow c.rows-given.ensures.value c.rows-given.ensures.widths c.in_ok-rows.ensures.range c.in_ok-rows.ensures.answer c.in_ok-finished.ensures c.in-Left.is in
+    let found = rw c.in-Some.is at c.in_ok-point-in-Left.ensures.exact in
+    opens c.args.system.now c.in-Left.field-0 c.in_ok-finished.finished.steps c.in_ok-finished.finished.trail c.width-width.result c.rows-given.result.now c.as_slice.result.now
+    c.in-Some.point all c.width-width.ensures c.rows-given.ensures.value c.as_slice.ensures found

@@ -30,14 +30,6 @@ ramp name x low high a b =
       equations = record { variable = 0; body = Index (record { coefs = a ∷ []; konst = b }) } ∷ [];
     }
 
-pub record IsRamp (p : System) : Type 0 where
-  pub x : List ℕ
-  pub low : ℤ
-  pub high : ℤ
-  pub a : ℤ
-  pub b : ℤ
-  pub is : p ≡ ramp p.name x low high a b
-
 -- the `count` points of one index from `low` on
 abbrev pub points_from : ℤ → ℕ → List (List ℤ)
 points_from low zero = []

@@ -1,5 +1,5 @@
 -- Programs of one output over an interval, whose equation is one index expression.
-use Rattle.std.specs.Prelude.{◌≡◌, ℕ, zero, suc, ℤ, pos, negsuc, neg_ℤ, ◌+ℤ◌, ◌*ℤ◌, List, [], ◌∷◌, ◌++◌}
+use Rattle.std.specs.Prelude.{ℕ, zero, suc, ℤ, pos, negsuc, neg_ℤ, ◌+ℤ◌, ◌*ℤ◌, List, [], ◌∷◌, ◌++◌}
 use Rattle.az_lin.specs.Affine.{Union}
 use Rattle.az_ast.specs.declared.expr.Expr.TheVariants.{Index}
 use Rattle.az_ast.specs.declared.program.Role.TheVariants.{Output}

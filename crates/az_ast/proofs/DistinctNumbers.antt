@@ -1,5 +1,5 @@
 -- Equations of different declared variables are no more than the variables.
-use Rattle.std.proofs.Common.{◌≡◌, ℕ, zero, suc, ◌+◌, ◌<◌, ◌≤◌, List, [], ◌∷◌, ◌++◌, length, take, Bool, true, false, ◌||◌, Option, Some, None, refl, sym, ap, subst, ◌∙◌, arith, inl, inr, length-take-le}
+use Rattle.std.proofs.Common.{◌≡◌, ℕ, zero, suc, ◌+◌, ◌<◌, ◌≤◌, List, [], ◌∷◌, ◌++◌, length, take, Bool, true, false, ◌||◌, None, refl, sym, ap, subst, ◌∙◌, arith, inl, inr, length-take-le}
 use Rattle.std.specs.Prelude.{All, map, ◌==◌, ◌⊎◌, get_or}
 use Rattle.std.specs.List.{list_any, AllByRecursion, IsDistinct}
 use Rattle.std.proofs.lemmas.Bool.{eqb-true}
@@ -8,11 +8,7 @@ use Rattle.std.proofs.lemmas.List.Elements.{recursion_from_All}
 use Rattle.std.proofs.lemmas.Map.Steps.{length-le_from_distinct_below}
 use Rattle.az_ast.specs.declared.program.Equation.{Equation}
 use Rattle.az_ast.specs.declared.program.Variable.{Variable}
-use Rattle.az_ast.specs.declared.fault.ShapeKind.{ShapeKind}
-use Rattle.az_ast.specs.declared.fault.ShapeKind.TheVariants.{Arity, InputEquation, TwoEquations, BadReduce}
-use Rattle.az_ast.specs.Shapes.{equation_kind, has_other_arity, of_variable, is_input, reduces_by_sub}
-use Rattle.az_ast.specs.Term.{term}
-use Rattle.az_ast.specs.Walks.{parts}
+use Rattle.az_ast.specs.Shapes.{equation_kind}
 use Rattle.az_ast.proofs.ShapeParts.{none_holds, neither, equation_tests}
 
 abbrev pub numbers : List Equation → List ℕ

@@ -1,16 +1,11 @@
 -- The first item at fault, from a place on.
-use Rattle.std.proofs.Common.{◌≡◌, ℕ, zero, suc, ◌+◌, ◌<◌, ◌≤◌, List, [], ◌∷◌, ◌++◌, length, take, drop, get_or, Bool, true, false, cond, Option, Some, None, refl, sym, ap, subst, ◌∙◌, arith, drop-cons, add-one}
-use Rattle.std.specs.Prelude.{option_map, All, map, ◌==◌, eqb}
+use Rattle.std.proofs.Common.{◌≡◌, ℕ, suc, ◌<◌, List, [], ◌∷◌, ◌++◌, length, take, drop, get_or, Option, Some, None, sym, ap, ◌∙◌, drop-cons}
+use Rattle.std.specs.Prelude.{option_map}
 use Rattle.std.specs.Option.{option_or}
-use Rattle.std.specs.List.{list_any, AllByRecursion, IsDistinct}
 use Rattle.std.proofs.Math.Seq.{take-suc, drop-length}
-use Rattle.std.proofs.lemmas.Map.Steps.{length-le_from_distinct_below}
-use Rattle.az_ast.specs.declared.fault.ShapeFault.{ShapeFault}
 use Rattle.az_ast.specs.declared.fault.ShapeFault.TheVariants.{Shape}
 use Rattle.az_ast.specs.declared.fault.ShapeKind.{ShapeKind}
-use Rattle.az_ast.specs.declared.program.Equation.{Equation}
-use Rattle.az_ast.specs.declared.program.Variable.{Variable}
-use Rattle.az_ast.specs.Shapes.{first_kind, kinds_after, missing_kinds, lacks_equation, first_of}
+use Rattle.az_ast.specs.Shapes.{first_kind, kinds_after}
 
 -- one item with a kind, or without
 pub first_kind-some : (n : ℕ) (kind : Option ShapeKind) (k : ShapeKind) (rest : List (Option ShapeKind)) → kind ≡ Some k → first_kind n (kind ∷ rest) ≡ Some (Shape k n)

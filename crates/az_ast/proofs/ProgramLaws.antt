@@ -10,13 +10,13 @@ use Rattle.az_lin.specs.Affine.{Union}
 use Rattle.az_ast.specs.declared.fault.ShapeFault.{ShapeFault}
 use Rattle.az_ast.specs.declared.fault.ShapeFault.TheVariants.{Shape}
 use Rattle.az_ast.specs.declared.fault.ShapeKind.{ShapeKind}
-use Rattle.az_ast.specs.declared.fault.ShapeKind.TheVariants.{Reserved, TwiceName, Arity, InputEquation, TwoEquations, BadReduce, NoEquation}
+use Rattle.az_ast.specs.declared.fault.ShapeKind.TheVariants.{NoEquation}
 use Rattle.az_ast.specs.declared.program.Equation.{Equation}
 use Rattle.az_ast.specs.declared.program.Variable.{Variable}
 use Rattle.az_ast.specs.Meaning.{equation_of}
 use Rattle.az_ast.specs.Nodes.{nodes}
 use Rattle.az_ast.specs.Placed.{IsConjunction}
-use Rattle.az_ast.specs.Shapes.{first_of, first_kind, kinds_after, missing_kinds, declaration_kind, equation_kind, header_kind, shape_of, limit_of, lacks_equation, of_variable, indices, is_input, has_other_arity, reduces_by_sub, is_index_name, stands_under_many, all_domains, IsProgram, IsPlain}
+use Rattle.az_ast.specs.Shapes.{first_kind, kinds_after, missing_kinds, declaration_kind, equation_kind, header_kind, shape_of, limit_of, lacks_equation, of_variable, indices, is_input, has_other_arity, reduces_by_sub, stands_under_many, all_domains, IsProgram, IsPlain}
 use Rattle.az_ast.specs.System.{System}
 use Rattle.az_ast.specs.Term.{term}
 use Rattle.az_ast.specs.Walks.{parts, is_outside}

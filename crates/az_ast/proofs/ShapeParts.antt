@@ -1,5 +1,5 @@
 -- The refusal of a program's parts, part by part.
-use Rattle.std.proofs.Common.{◌≡◌, ℕ, zero, suc, ◌+◌, ◌<◌, ◌≤◌, List, [], ◌∷◌, ◌++◌, length, get_or, Bool, true, false, cond, ◌||◌, Option, Some, None, refl, sym, ap, subst, ◌∙◌, arith, add-zero, add-suc, length-append}
+use Rattle.std.proofs.Common.{◌≡◌, ℕ, suc, ◌+◌, ◌<◌, ◌≤◌, List, [], ◌∷◌, ◌++◌, length, get_or, Bool, true, false, cond, ◌||◌, Option, Some, None, refl, sym, ap, ◌∙◌, arith, add-zero}
 use Rattle.std.specs.Prelude.{All, option_map, nat_lt, MatchOption, slice_get, ◌==◌}
 use Rattle.std.specs.Option.{option_or}
 use Rattle.std.specs.List.{list_any, AllByRecursion}
@@ -11,7 +11,7 @@ use Rattle.az_ast.specs.declared.fault.ShapeFault.TheVariants.{Shape, Limit}
 use Rattle.az_ast.specs.declared.fault.ShapeKind.{ShapeKind}
 use Rattle.az_ast.specs.declared.program.Equation.{Equation}
 use Rattle.az_ast.specs.declared.program.Variable.{Variable}
-use Rattle.az_ast.specs.Placed.{IsPlaced, IsEquationPlaced, IsAtWidth}
+use Rattle.az_ast.specs.Placed.{IsPlaced, IsAtWidth}
 use Rattle.az_ast.specs.Shapes.{first_kind, kinds_after, missing_kinds, declaration_kind, equation_kind, header_kind, shape_of, limit_of, has_many_names, has_many_columns, has_many_nodes, has_many_disjuncts, has_other_arity, of_variable, is_input, reduces_by_sub, first_of}
 use Rattle.az_ast.specs.System.{System}
 use Rattle.az_ast.specs.Term.{term}

@@ -1,11 +1,10 @@
 -- The parts that tests put together are placed.
-use Rattle.std.proofs.Common.{◌≡◌, ℕ, zero, suc, ◌<◌, ◌≤◌, List, [], ◌∷◌, refl, arith, length}
+use Rattle.std.proofs.Common.{ℕ, zero, suc, ◌<◌, ◌≤◌, List, [], refl, arith}
 use Rattle.std.specs.Prelude.{All, MatchOption, slice_get}
 use Rattle.std.specs.Prelude as prelude
 use Rattle.az_ast.specs.declared.program.Equation.{Equation}
 use Rattle.az_ast.specs.declared.program.Variable.{Variable}
-use Rattle.az_ast.specs.Placed.{IsAtWidth, IsEquationPlaced, IsPlaced}
-use Rattle.az_ast.specs.System.{System}
+use Rattle.az_ast.specs.Placed.{IsAtWidth, IsPlaced}
 use Rattle.az_ast.specs.Term.{Term, term}
 use Rattle.az_ast.specs.TestParts.{space, IsOfTwo, input_and_output}
 

@@ -1,5 +1,5 @@
 -- Walks over the branches of a case.
-use Rattle.std.proofs.Common.{◌≡◌, ℕ, suc, ◌+◌, ◌-◌, ◌<◌, ◌≤◌, List, [], ◌∷◌, ◌++◌, length, drop, get_or, Bool, ◌||◌, refl, sym, ap, subst, ◌∙◌, arith, drop-cons}
+use Rattle.std.proofs.Common.{◌≡◌, ℕ, suc, ◌<◌, ◌≤◌, List, [], ◌∷◌, length, drop, Bool, ◌||◌, refl, sym, ap, subst, ◌∙◌, arith, drop-cons}
 use Rattle.std.specs.Prelude.{map, slice_index_or, flat_map}
 use Rattle.std.specs.List.{list_any}
 use Rattle.std.proofs.Math.Nat.{le-max_left}
@@ -10,7 +10,7 @@ use Rattle.az_ast.specs.declared.expr.Expr.{Expr}
 use Rattle.az_ast.specs.declared.expr.Expr.TheVariants.{Cases}
 use Rattle.az_ast.specs.Nodes.{nodes, nodes_below}
 use Rattle.az_ast.specs.Term.{Term, Choices, choices, term}
-use Rattle.az_ast.specs.Walks.{parts, parts_below, own_accesses, branch_domains, extra_under, extra_below}
+use Rattle.az_ast.specs.Walks.{parts_below, own_accesses, branch_domains, extra_under, extra_below}
 use Rattle.az_ast.proofs.Terms.{term-Cases}
 
 -- a test of what the items give

@@ -1,5 +1,5 @@
 -- Programs of one output over an interval, whose equation is one index expression.
-use Rattle.std.specs.Prelude.{◌≡◌, ℕ, zero, suc, ℤ, pos, negsuc, neg_ℤ, ◌+ℤ◌, ◌*ℤ◌, List, [], ◌∷◌, ◌++◌}
+use Rattle.std.specs.Prelude.{ℕ, zero, suc, ℤ, pos, negsuc, neg_ℤ, ◌+ℤ◌, ◌*ℤ◌, List, [], ◌∷◌, ◌++◌}
 use Rattle.az_lin.specs.Affine.{Union}
 use Rattle.az_ast.specs.declared.expr.Expr.TheVariants.{Index}
 use Rattle.az_ast.specs.declared.program.Role.TheVariants.{Output}
@@ -29,14 +29,6 @@ ramp name x low high a b =
       variables = record { name = x; role = Output; domain = interval low high } ∷ [];
       equations = record { variable = 0; body = Index (record { coefs = a ∷ []; konst = b }) } ∷ [];
     }
-
-pub record IsRamp (p : System) : Type 0 where
-  pub x : List ℕ
-  pub low : ℤ
-  pub high : ℤ
-  pub a : ℤ
-  pub b : ℤ
-  pub is : p ≡ ramp p.name x low high a b
 
 -- the `count` points of one index from `low` on
 abbrev pub points_from : ℤ → ℕ → List (List ℤ)

@@ -1,10 +1,9 @@
 -- Programs that can be written as text: their names are words that the grammar takes as names, and no
 -- case is without branches.
-use Rattle.std.specs.Prelude.{◌≡◌, ◌==◌, ℕ, Bool, false, true, not, ◌&&◌, ◌||◌, List, [], ◌∷◌, All, codes, IsTrue}
+use Rattle.std.specs.Prelude.{◌==◌, ℕ, Bool, false, true, not, ◌&&◌, ◌||◌, List, [], ◌∷◌, All, codes, IsTrue}
 use Rattle.std.specs.Char.{is_ascii_alphabetic, is_ascii_alphanumeric}
 use Rattle.std.specs.List.{list_all, list_any}
 use Rattle.std.specs.Str.{bytes_eq}
-use Rattle.az_ast.specs.declared.program.Equation.{Equation}
 use Rattle.az_ast.specs.System.{System}
 use Rattle.az_ast.specs.Term.{Term, constant, index, access, negation, binary, cases, reduction, Choices, none, choice, term}
 use Rattle.az_ast.specs.Walks.{parts}

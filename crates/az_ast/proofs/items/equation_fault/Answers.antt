@@ -1,7 +1,6 @@
-use Rattle.std.proofs.Common.{rules, ◌≡◌, ◌+◌, ◌<◌, ◌≤◌, length, take, refl, sym, ap, ◌∙◌, arith, None, add-zero, add-one, add-suc}
-use Rattle.std.specs.Prelude.{slice_index_or}
-use Rattle.az_ast.specs.Shapes.{equation_kind, first_kind}
-use Rattle.az_ast.proofs.ItemSteps.{kinds_from, passed}
+use Rattle.std.proofs.Common.{rules, ◌≡◌, ◌+◌, ◌≤◌, length, take, refl, sym, ◌∙◌, arith, None, add-zero, add-one, add-suc}
+use Rattle.az_ast.specs.Shapes.{equation_kind}
+use Rattle.az_ast.proofs.ItemSteps.{passed}
 use Rattle.az_ast.proofs.DistinctNumbers.{distinct_none, distinct_more, few_so_far}
 use Rattle.az_ast.proofs.items.equation_fault.Goals as goal
 

@@ -1,4 +1,4 @@
-use Rattle.std.proofs.Common.{rules, ◌≡◌, ◌≤◌, ◌+◌, ◌-◌, refl, sym, ap, subst, ◌∙◌, arith, length, drop}
+use Rattle.std.proofs.Common.{◌≡◌, ◌≤◌, ◌+◌, ◌-◌, refl, sym, ap, subst, ◌∙◌, arith, length, drop}
 use Rattle.std.specs.Prelude.{SomeIff}
 use Rattle.std.proofs.Math.Seq.{drop-length}
 use Rattle.az_ast.specs.Nodes.{nodes, nodes_below}

@@ -1,4 +1,3 @@
-use Rattle.std.proofs.Common.{rules, ◌≡◌}
 use Rattle.az_ast.proofs.MapLemmas.{insert-more}
 use Rattle.az_ast.proofs.inputs.TableMap.copy.Goals as goal
 

@@ -1,4 +1,4 @@
-use Rattle.std.proofs.Common.{◌≡◌, refl, sym, ap, ◌∙◌}
+use Rattle.std.proofs.Common.{refl, sym, ◌∙◌}
 use Rattle.std.specs.List.{list_any}
 use Rattle.az_ast.specs.Walks.{branch_domains, own_domains, is_outside}
 use Rattle.az_ast.proofs.Walks.{of_cases, domains-below}

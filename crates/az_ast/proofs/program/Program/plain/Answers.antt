@@ -1,4 +1,4 @@
-use Rattle.std.proofs.Common.{◌≡◌, sym, subst}
+use Rattle.std.proofs.Common.{sym, subst}
 use Rattle.std.specs.Prelude.{◌↔◌, IsTrue, not}
 use Rattle.az_ast.specs.Shapes.{IsPlain}
 use Rattle.az_ast.proofs.ProgramLaws.{plain_is}

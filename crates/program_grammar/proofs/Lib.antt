@@ -3,3 +3,4 @@ pub mod SideRules
 pub mod DomainRules
 pub mod ExprRules
 pub mod ProgramRules
+pub mod PrintedRules

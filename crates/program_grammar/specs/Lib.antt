@@ -4,3 +4,4 @@ pub mod Values
 pub mod Grammar
 pub mod Readers
 pub mod Readings
+pub mod Printed

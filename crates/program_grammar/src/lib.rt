@@ -9,6 +9,7 @@ mod domains;
 mod equations;
 mod expressions;
 mod fault;
+mod laws;
 mod sides;
 mod size;
 #[cfg(test)]
@@ -19,6 +20,7 @@ mod words;
 
 pub use equations::read_tokens;
 pub use fault::TextFault;
+pub use laws::printed_rules_are_same;
 pub use text::read_text;
 pub use tree::{
     Branch, Chain, Declaration, Equation, Expr, Link, Operator, ProgramText, Relation, Term,

@@ -17,3 +17,4 @@ pub mod InversionEnd
 pub mod Undone
 pub mod KernelLaws
 pub mod LeastDenominator
+pub mod AddedProducts

@@ -2,6 +2,5 @@ pub mod Divisors
 pub mod Steps
 pub mod Derivations
 pub mod Soundness
-pub mod Products
 pub mod Points
 pub mod Traces

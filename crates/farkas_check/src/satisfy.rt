@@ -1,29 +1,10 @@
 //! Whether a rational point satisfies a system.
 
-ghost use Rattle.std.specs.Prelude.{◌≡◌, ◌+ℤ◌, ◌*ℤ◌, ◌≤ℤ◌, ◌<ℤ◌, ◌↔◌, SomeIff, IsTrue, length, pos};
-ghost use Rattle.az_lin.specs.Affine.{dot};
+ghost use Rattle.std.specs.Prelude.{◌≡◌, ◌*ℤ◌, ◌≤ℤ◌, ◌<ℤ◌, ◌↔◌, SomeIff, IsTrue, length, pos};
 ghost use Rattle.farkas_check.specs.Verdict.{IsMet};
-ghost use Rattle.az_lin.specs.RationalPoint.{AddsWide, IsWideAt, Satisfies, value_over};
+ghost use Rattle.az_lin.specs.RationalPoint.{IsWideAt, Satisfies, value_over};
 
-use az_lin::{Conj, RatPoint, Row, wide_product, wide_sum};
-
-/// The start and the products of the two lists, added in order.
-fn add_products(start: i128, coefs: &[i128], nums: &[i128]) -> Option<i128>
-    requires { length coefs.now ≡ length nums.now }
-    ensures { SomeIff result (AddsWide start coefs.now nums.now) (start +ℤ dot coefs.now nums.now) }
-{
-    let mut sum = start;
-    'columns: for column in 0..coefs.len() {
-        let Some(product) = wide_product(coefs[column], nums[column]) else {
-            return None;
-        };
-        let Some(next) = wide_sum(sum, product) else {
-            return None;
-        };
-        sum = next;
-    }
-    Some(sum)
-}
+use az_lin::{Conj, RatPoint, Row, add_products, wide_product};
 
 /// The denominator times the row's value at the point.
 fn scaled_value(row: &Row, point: &RatPoint) -> Option<i128>

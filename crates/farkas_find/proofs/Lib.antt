@@ -21,7 +21,6 @@ pub mod Small
 pub mod Given
 pub mod InPlace
 pub mod Reduced
-pub mod Products
 pub mod Bounds
 pub mod Placing
 pub mod Trails

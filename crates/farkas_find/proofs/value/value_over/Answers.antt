@@ -2,7 +2,7 @@ use Rattle.std.proofs.Common.{subst, sym, SFits, rules}
 use Rattle.std.proofs.lemmas.Int.{to_z-of_z}
 use Rattle.std.specs.Int.{w128}
 use Rattle.az_lin.specs.Affine.{IsWide}
-use Rattle.farkas_find.proofs.Products.{wide_if_found}
+use Rattle.az_lin.proofs.AddedProducts.{wide_if_found}
 use Rattle.farkas_find.proofs.value.value_over.Goals as goal
 
 pub returns-clause-range : goal.returns-clause-range

@@ -2,8 +2,8 @@ use Rattle.std.proofs.Common.{◌<◌, length, get_or, ℤ, pos, subst, to_z, of
 use Rattle.std.proofs.lemmas.Int.{to_z-of_z as back}
 use Rattle.std.proofs.Common.{to_z-of_z}
 use Rattle.std.specs.Int.{w128}
-use Rattle.farkas_find.proofs.Products.{SoFar, SoFar-more, narrow_sum}
-use Rattle.farkas_find.proofs.value.add_products.Goals as goal
+use Rattle.az_lin.proofs.AddedProducts.{SoFar, SoFar-more, narrow_sum}
+use Rattle.az_lin.proofs.products.add_products.Goals as goal
 
 pub returns-in_default-wide_sum : goal.returns-in_default-wide_sum
 returns-in_default-wide_sum c =

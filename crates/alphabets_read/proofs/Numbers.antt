@@ -1,6 +1,6 @@
 -- The numbers of a text of the form are below a million.
-use Rattle.std.proofs.Common.{◌≡◌, ℕ, zero, suc, ◌<◌, List, [], ◌∷◌, slice_get, Some, None, arith, refl, sym, subst, length}
-use Rattle.std.specs.Prelude.{All, Option, Result, Ok, Err, IfOk}
+use Rattle.std.proofs.Common.{◌≡◌, ℕ, zero, suc, ◌<◌, List, [], ◌∷◌, slice_get, Some, refl, sym, subst}
+use Rattle.std.specs.Prelude.{All, Result, Ok, Err, IfOk}
 use Rattle.az_ast.specs.System.{System}
 use Rattle.alphabets_read.specs.declared.fault.ReadFault.{ReadFault}
 use Rattle.std.proofs.lemmas.List.Elements.{All-head, All-tail}

@@ -1,0 +1,24 @@
+//! A verdict that nobody need believe: the checker accepts each derivation.
+
+ghost use Rattle.std.specs.Prelude.{◌≤◌, List, ℤ, IfOk, IsTrue};
+ghost use Rattle.az_lin.specs.Affine.{Holds};
+
+use az_lin::Conj;
+use farkas_check::{CheckFault, check};
+use farkas_find::{Decision, FindFault, decide};
+use std::alloc::Global;
+
+/// Whether a derivation that the checker accepts refutes the system.
+pub fn is_refuted(alloc: Global, system: &Conj) -> Result<bool, FindFault>
+    requires narrow { system.now.width ≤ 4096 }
+    ensures sound { IfOk result (λ refuted. IsTrue refuted → (z : List ℤ) → ¬ Holds system.now z) }
+{
+    match decide(alloc, system)? {
+        Decision::Refuted(derivation) => match check(alloc, system, &derivation) {
+            Ok(()) => Ok(true),
+            Err(CheckFault::BadStep { .. }) => unreachable!(),
+            Err(CheckFault::Memory) => Err(FindFault::Memory),
+        },
+        Decision::Point(_) => Ok(false),
+    }
+}

@@ -70,6 +70,24 @@ fn one(alloc: Global, variable: u32, body: Expr) -> Result<List<Equation>, Shape
     Ok(equations)
 }
 
+/// Two equations of the output.
+fn twice(alloc: Global) -> Result<List<Equation>, ShapeFault>
+    ensures { IfOk result (λ equations. All IsOfTwo equations) }
+{
+    let first = Equation {
+        variable: 1,
+        body: Expr::Const(5),
+    };
+    let second = Equation {
+        variable: 1,
+        body: Expr::Const(6),
+    };
+    let mut equations = List::new(alloc);
+    equations.push(first).map_err(short)?;
+    equations.push(second).map_err(short)?;
+    Ok(equations)
+}
+
 fn is_shape(fault: &Option<ShapeFault>, kind: ShapeKind, item: u32) -> bool {
     match fault {
         Some(ShapeFault::Shape { kind: k, item: i }) => *k == kind && *i == item,
@@ -90,6 +108,8 @@ fn each_kind_comes_at_its_item(rt: HostRuntime) -> Result<(), ShapeFault> {
     assert!(rt; is_shape(&fault, ShapeKind::NoEquation, 2));
     let fault = answer(alloc, "A", "X", one(alloc, 0, Expr::Const(5))?)?;
     assert!(rt; is_shape(&fault, ShapeKind::InputEquation, 3));
+    let fault = answer(alloc, "A", "X", twice(alloc)?)?;
+    assert!(rt; is_shape(&fault, ShapeKind::TwoEquations, 4));
     Ok(())
 }
 

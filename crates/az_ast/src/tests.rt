@@ -38,5 +38,8 @@ fn tables_stand_under_their_numbers(rt: HostRuntime) -> Result<(), ShapeFault> {
     assert_eq!(rt; found, Some(5));
     let missing = inputs.table(3).and_then(|table| table.value(&[0, 2]));
     assert_eq!(rt; missing, None);
+    let copies = inputs.copy(alloc)?;
+    let found = copies.table(3).and_then(|table| table.value(&[0, -2]));
+    assert_eq!(rt; found, Some(5));
     Ok(())
 }

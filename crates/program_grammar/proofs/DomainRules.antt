@@ -1,12 +1,12 @@
 -- The readers of domains and declarations follow their rules.
-use Rattle.std.proofs.Common.{◌≡◌, ℕ, true, false, List, [], ◌∷◌, refl}
+use Rattle.std.proofs.Common.{ℕ, true, false, [], ◌∷◌, refl}
 use Rattle.std.specs.Prelude.{codes}
 use Rattle.az_text.specs.declared.mark.MarkKind.TheVariants.{OpenBrace, CloseBrace, Bar, BarBar, Semicolon, AndAnd}
 use Rattle.az_text.specs.declared.token.Token.{Token}
-use Rattle.grammar_rules.specs.Rules.{Rule, sequence, choice, list_of, give}
+use Rattle.grammar_rules.specs.Rules.{Rule, sequence, list_of}
 use Rattle.grammar_rules.specs.Readers.{Reader}
-use Rattle.grammar_rules.specs.Exactness.{Shape, token_shape, nothing_shape, sequence_shape, choice_shape, many_shape, is_disjoint}
-use Rattle.grammar_rules.proofs.Choice.{choice_exact, optional_exact}
+use Rattle.grammar_rules.specs.Exactness.{Shape, token_shape, nothing_shape, sequence_shape, choice_shape, many_shape}
+use Rattle.grammar_rules.proofs.Choice.{choice_exact}
 use Rattle.grammar_rules.proofs.Many.{list_of_exact}
 use Rattle.grammar_rules.proofs.Sequence.{sequence_exact}
 use Rattle.grammar_rules.proofs.Token.{nothing_exact}

@@ -3,7 +3,7 @@ use Rattle.std.proofs.Common.{◌≡◌, ℕ, suc, true, false, List, [], ◌∷
 use Rattle.std.specs.Prelude.{codes}
 use Rattle.az_text.specs.declared.mark.MarkKind.TheVariants.{OpenBracket, CloseBracket, OpenParen, CloseParen, Comma, Colon, Semicolon, Minus, Star}
 use Rattle.az_text.specs.declared.token.Token.{Token}
-use Rattle.grammar_rules.specs.Rules.{Rule, sequence, list_of}
+use Rattle.grammar_rules.specs.Rules.{Rule, sequence}
 use Rattle.grammar_rules.specs.Readers.{Reader, read_level}
 use Rattle.grammar_rules.specs.Readers.Answer.{wrong}
 use Rattle.grammar_rules.specs.Exactness.{Shape, Exact, token_shape, sequence_shape, choice_shape, many_shape}
@@ -21,7 +21,7 @@ use Rattle.program_grammar.specs.Words.{reserved, class, signs, functions, folds
 use Rattle.program_grammar.specs.Values as value
 use Rattle.program_grammar.specs.Values.{behind, before, pair}
 use Rattle.program_grammar.specs.Grammar.{access, index, in_parentheses, call, branch, cases, reduction, operand, primary, negated, unary, product, sum, expr_body, expr}
-use Rattle.program_grammar.specs.Readers.{read_access, read_index, read_in_parentheses, read_call, read_branch, read_branches, read_cases, read_reduction, read_operand, read_primary, read_negated, read_unary, read_factor, read_product, read_summand, read_sum, read_restricted, read_expr_body, read_expr}
+use Rattle.program_grammar.specs.Readers.{read_access, read_index, read_in_parentheses, read_call, read_branch, read_cases, read_reduction, read_operand, read_primary, read_negated, read_unary, read_factor, read_product, read_summand, read_sum, read_expr_body, read_expr}
 use Rattle.program_grammar.proofs.SideRules.{Follows, mark_exact, name_exact, number_exact, keyword_exact, one_of_exact, indices_exact, affine_exact, rows_in_brackets_exact}
 use Rattle.program_grammar.proofs.DomainRules.{restricted_rows_exact, restricted_disjuncts_exact}
 

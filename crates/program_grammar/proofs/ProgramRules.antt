@@ -1,5 +1,5 @@
 -- The readers of equations and of whole programs follow their rules.
-use Rattle.std.proofs.Common.{◌≡◌, ℕ, ◌+◌, true, false, List, [], ◌∷◌, refl, arith, ap, subst, Result, Ok, Err}
+use Rattle.std.proofs.Common.{◌≡◌, ℕ, ◌+◌, true, false, List, [], ◌∷◌, refl, arith, ap, subst, Err}
 use Rattle.std.specs.Prelude.{codes}
 use Rattle.az_text.specs.declared.mark.MarkKind.TheVariants.{Semicolon, Dot, Equal}
 use Rattle.az_text.specs.declared.token.Token.{Token}

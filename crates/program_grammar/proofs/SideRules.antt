@@ -1,5 +1,5 @@
 -- The readers of tokens, of lists of names and of affine sides follow their rules.
-use Rattle.std.proofs.Common.{◌≡◌, ℕ, true, false, List, [], ◌∷◌, refl}
+use Rattle.std.proofs.Common.{ℕ, true, false, List, [], ◌∷◌, refl}
 use Rattle.az_text.specs.declared.mark.MarkKind.{MarkKind}
 use Rattle.az_text.specs.declared.mark.MarkKind.TheVariants.{OpenBracket, CloseBracket, Comma, Star}
 use Rattle.az_text.specs.declared.token.Token.{Token}

@@ -1,11 +1,9 @@
 -- The grammar of programs. A token weighs 1 where a node of an expression counts, which is at its first
 -- token or at its infix mark, and where a parenthesis is opened in an expression; all others weigh 0.
 --
--- A few rules are written so that one token decides; they take the same as the printed ones.
---   part    = NUMBER [ [ "*" ] NAME ] | NAME              for NUMBER | NUMBER "*" NAME | NUMBER NAME | NAME
---   unary   = "-" ( NUMBER | operand ) | NUMBER | operand  where a minus and a number are one constant
---   access  = NAME [ "[" affines "]" ]                     for NAME | NAME "[" affines "]"
-use Rattle.std.specs.Prelude.{ℕ, if◌then◌else◌, nat_le, List, [], ◌∷◌, Option, Some, None, Bool, true, false, codes}
+-- The rules scaled, access and unary are written so that one token decides. Printed.antt has the printed
+-- ones beside them; they are the same by printed_rules_are_same.
+use Rattle.std.specs.Prelude.{ℕ, if◌then◌else◌, nat_le, List, [], true, false, codes}
 use Rattle.az_text.specs.declared.mark.MarkKind.TheVariants.{OpenBrace, CloseBrace, OpenBracket, CloseBracket, OpenParen, CloseParen, Bar, BarBar, Comma, Colon, Semicolon, Dot, Equal, AndAnd, Minus, Star}
 use Rattle.az_text.specs.declared.token.Token.{Token}
 use Rattle.grammar_rules.specs.Rules.{Rule, give, mapped_to, sequence, followed, choice, optional, many, left, list_of, fresh, recursive}
@@ -16,7 +14,6 @@ use Rattle.program_grammar.specs.declared.tree.Equation.{Equation}
 use Rattle.program_grammar.specs.declared.tree.Expr.{Expr}
 use Rattle.program_grammar.specs.declared.tree.Expr.TheVariants as form
 use Rattle.program_grammar.specs.declared.tree.Link.{Link}
-use Rattle.program_grammar.specs.declared.tree.Operator.{Operator}
 use Rattle.program_grammar.specs.declared.tree.ProgramText.{ProgramText}
 use Rattle.program_grammar.specs.declared.tree.Term.{Term}
 use Rattle.program_grammar.specs.Nodes.{nodes}

@@ -1,6 +1,6 @@
 -- The readers of the rules, with their look-ahead sets. The classes are those of marks in their order
 -- from 0, 23 for a number, 25 for a name, and from 26 the reserved words in their order.
-use Rattle.std.specs.Prelude.{ℕ, ◌+◌, ◌-◌, List, [], ◌∷◌, Option, Some, None, Bool, true, false, codes}
+use Rattle.std.specs.Prelude.{ℕ, ◌+◌, List, [], ◌∷◌, Bool, true, false, codes}
 use Rattle.az_text.specs.declared.mark.MarkKind.TheVariants.{OpenBrace, CloseBrace, OpenBracket, CloseBracket, OpenParen, CloseParen, Bar, BarBar, Comma, Colon, Semicolon, Dot, Equal, AndAnd, Minus, Star}
 use Rattle.az_text.specs.declared.token.Token.{Token}
 use Rattle.grammar_rules.specs.Readers.{Reader, read_nothing, read_mapped, read_followed, read_sequence, read_choice, read_optional, read_many, read_left, read_list_of, read_fresh, read_level}
@@ -11,7 +11,6 @@ use Rattle.program_grammar.specs.declared.tree.Equation.{Equation}
 use Rattle.program_grammar.specs.declared.tree.Expr.{Expr}
 use Rattle.program_grammar.specs.declared.tree.Expr.TheVariants as form
 use Rattle.program_grammar.specs.declared.tree.Link.{Link}
-use Rattle.program_grammar.specs.declared.tree.Operator.{Operator}
 use Rattle.program_grammar.specs.declared.tree.ProgramText.{ProgramText}
 use Rattle.program_grammar.specs.declared.tree.Term.{Term}
 use Rattle.program_grammar.specs.Values as value

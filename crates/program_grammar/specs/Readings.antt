@@ -2,7 +2,6 @@
 -- the grammar within the limits; else the first fault of its tokens, the exact place of the first token
 -- that can't go on, or that an equation is too large, whichever a reading from left to right meets first.
 use Rattle.std.specs.Prelude.{◌≡◌, ℕ, List, [], ◌∷◌, length, Result, Ok, Err}
-use Rattle.az_text.specs.declared.fault.LexFault.{LexFault}
 use Rattle.az_text.specs.declared.token.Token.{Token}
 use Rattle.az_text.specs.Reading.{Reads, IsReadOf}
 use Rattle.grammar_rules.specs.Whole.{IsSentence, IsMisplaced, IsTooHeavy}

@@ -1,11 +1,11 @@
 -- The values that the rules put together.
-use Rattle.std.specs.Prelude.{ℕ, Bool, true, false, if◌then◌else◌, List, [], ◌∷◌, Option, Some, None}
+use Rattle.std.specs.Prelude.{ℕ, Bool, false, if◌then◌else◌, List, [], ◌∷◌, Option, Some, None}
 use Rattle.program_grammar.specs.declared.tree.Branch.{Branch}
 use Rattle.program_grammar.specs.declared.tree.Chain.{Chain}
 use Rattle.program_grammar.specs.declared.tree.Declaration.{Declaration}
 use Rattle.program_grammar.specs.declared.tree.Equation.{Equation}
 use Rattle.program_grammar.specs.declared.tree.Expr.{Expr}
-use Rattle.program_grammar.specs.declared.tree.Expr.TheVariants.{Constant, Index, Access, Negation, Binary, Cases, Reduction}
+use Rattle.program_grammar.specs.declared.tree.Expr.TheVariants.{Constant, Index, Access, Binary, Cases, Reduction}
 use Rattle.program_grammar.specs.declared.tree.Link.{Link}
 use Rattle.program_grammar.specs.declared.tree.Operator.{Operator}
 use Rattle.program_grammar.specs.declared.tree.Operator.TheVariants.{Add, Subtract, Multiply}

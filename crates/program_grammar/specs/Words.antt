@@ -1,5 +1,5 @@
 -- The words that are no names, and the tokens that have a value in programs.
-use Rattle.std.specs.Prelude.{ℕ, Bool, true, false, List, [], ◌∷◌, Option, codes}
+use Rattle.std.specs.Prelude.{ℕ, Bool, true, false, List, [], ◌∷◌, codes}
 use Rattle.az_text.specs.declared.mark.MarkKind.{MarkKind}
 use Rattle.az_text.specs.declared.mark.MarkKind.TheVariants.{Equal, EqualEqual, LessEqual, Less, GreaterEqual, Greater, Plus, Minus, Star}
 use Rattle.az_text.specs.declared.token.Token.{Token}

@@ -1,9 +1,9 @@
-use Rattle.std.proofs.Common.{◌≡◌, sym, subst, ap, ◌∙◌, Err}
+use Rattle.std.proofs.Common.{sym, subst, ap, ◌∙◌, Err}
 use Rattle.grammar_rules.specs.Gives.{Gives}
 use Rattle.grammar_rules.specs.Readers.{after, read_nothing}
 use Rattle.grammar_rules.specs.Readers.Answer.{got}
 use Rattle.program_grammar.specs.Values as value
-use Rattle.program_grammar.specs.Readers.{read_equations, read_program}
+use Rattle.program_grammar.specs.Readers.{read_equations}
 use Rattle.program_grammar.proofs.ProgramRules.{program_after, fault_gives}
 use Rattle.program_grammar.proofs.equations.program.Goals as goal
 

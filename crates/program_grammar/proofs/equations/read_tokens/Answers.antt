@@ -1,4 +1,4 @@
-use Rattle.std.proofs.Common.{◌≡◌, ℕ, List, subst, Result}
+use Rattle.std.proofs.Common.{ℕ, List, subst}
 use Rattle.az_text.specs.declared.token.Token.{Token}
 use Rattle.grammar_rules.specs.Gives.{Concludes, IsReadBy}
 use Rattle.grammar_rules.specs.Whole.{verdict}

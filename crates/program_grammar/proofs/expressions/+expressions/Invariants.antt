@@ -1,4 +1,4 @@
-use Rattle.std.proofs.Common.{◌≡◌, ℕ, ◌+◌, ◌*◌, [], ◌∷◌, length}
+use Rattle.std.proofs.Common.{◌≡◌, ◌+◌, ◌*◌, [], ◌∷◌, length}
 use Rattle.grammar_rules.specs.Rules.{put_last}
 use Rattle.grammar_rules.specs.Readers.{read_onto}
 use Rattle.program_grammar.specs.Values.{product, sum}

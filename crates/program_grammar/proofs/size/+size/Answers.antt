@@ -1,5 +1,4 @@
-use Rattle.std.proofs.Common.{◌≡◌, ◌+◌, rules, arith}
-use Rattle.program_grammar.specs.Nodes.{nodes_of_bodies}
+use Rattle.std.proofs.Common.{◌≡◌, ◌+◌, rules}
 use Rattle.program_grammar.proofs.NodeLemmas.{cases_spend}
 use Rattle.program_grammar.proofs.size.+size.Goals as goal
 

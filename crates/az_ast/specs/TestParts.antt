@@ -18,3 +18,7 @@ IsOfTwo equation = (equation.variable < 2) × IsAtWidth 2 (term equation.body) 1
 -- an input and an output of one index, without parameters
 abbrev pub input_and_output : List ℕ → List ℕ → List Variable
 input_and_output a x = record { name = a; role = Input; domain = space 1 } ∷ record { name = x; role = Output; domain = space 1 } ∷ []
+
+-- an output alone
+abbrev pub output : Union → List Variable
+output domain = record { name = 88 ∷ []; role = Output; domain = domain } ∷ []

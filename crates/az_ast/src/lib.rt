@@ -5,12 +5,16 @@
 
 mod checked;
 mod copy;
+#[cfg(test)]
+mod copy_tests;
 mod draft;
 mod expr;
 mod fault;
 mod index_name;
 mod inputs;
 mod items;
+#[cfg(test)]
+mod limit_tests;
 mod limits;
 mod op;
 mod part_tests;

@@ -10,12 +10,12 @@ use az_lin::{Conj, Domain, Limit, LinFault, List, Map, Name};
 use sqlite_items::Boxed;
 use std::alloc::Global;
 
-fn short(_: LinFault) -> ShapeFault {
+pub(crate) fn short(_: LinFault) -> ShapeFault {
     ShapeFault::Memory
 }
 
 /// All points of so many coordinates.
-fn space(alloc: Global, width: usize) -> Result<Domain, ShapeFault>
+pub(crate) fn space(alloc: Global, width: usize) -> Result<Domain, ShapeFault>
     ensures { IfOk result (λ domain. domain ≡ space width) }
 {
     Domain::of_conj(alloc, Conj::new(width, List::new(alloc))).map_err(short)
@@ -40,8 +40,23 @@ fn input_and_output(alloc: Global, input: &str, output: &str) -> Result<List<Var
     Ok(variables)
 }
 
-/// What is answered for an input and an output of one index, with these equations.
+/// An input and an output of one index, with these equations.
 #[tactic(auto, using(crate::proofs::TestParts::two_placed))]
+pub(crate) fn program(
+    alloc: Global,
+    input: &str,
+    output: &str,
+    equations: List<Equation>,
+) -> Result<Result<Program, ShapeFault>, ShapeFault>
+    requires { All IsOfTwo equations }
+{
+    let variables = input_and_output(alloc, input, output)?;
+    let name = Name::from_str(alloc, "P").map_err(short)?;
+    let pdom = space(alloc, 0)?;
+    Ok(Program::new(name, List::new(alloc), pdom, variables, equations))
+}
+
+/// Why they are no program.
 fn answer(
     alloc: Global,
     input: &str,
@@ -50,17 +65,11 @@ fn answer(
 ) -> Result<Option<ShapeFault>, ShapeFault>
     requires { All IsOfTwo equations }
 {
-    let variables = input_and_output(alloc, input, output)?;
-    let name = Name::from_str(alloc, "P").map_err(short)?;
-    let pdom = space(alloc, 0)?;
-    match Program::new(name, List::new(alloc), pdom, variables, equations) {
-        Ok(_) => Ok(None),
-        Err(fault) => Ok(Some(fault)),
-    }
+    Ok(program(alloc, input, output, equations)?.err())
 }
 
 /// An equation alone.
-fn one(alloc: Global, variable: u32, body: Expr) -> Result<List<Equation>, ShapeFault>
+pub(crate) fn one(alloc: Global, variable: u32, body: Expr) -> Result<List<Equation>, ShapeFault>
     requires number { variable < 2 }
     requires width { IsAtWidth 2 (term body) 1 }
     ensures { IfOk result (λ equations. All IsOfTwo equations) }
@@ -74,6 +83,7 @@ fn one(alloc: Global, variable: u32, body: Expr) -> Result<List<Equation>, Shape
 fn twice(alloc: Global) -> Result<List<Equation>, ShapeFault>
     ensures { IfOk result (λ equations. All IsOfTwo equations) }
 {
+    let mut equations = List::new(alloc);
     let first = Equation {
         variable: 1,
         body: Expr::Const(5),
@@ -82,13 +92,12 @@ fn twice(alloc: Global) -> Result<List<Equation>, ShapeFault>
         variable: 1,
         body: Expr::Const(6),
     };
-    let mut equations = List::new(alloc);
     equations.push(first).map_err(short)?;
     equations.push(second).map_err(short)?;
     Ok(equations)
 }
 
-fn is_shape(fault: &Option<ShapeFault>, kind: ShapeKind, item: u32) -> bool {
+pub(crate) fn is_shape(fault: &Option<ShapeFault>, kind: ShapeKind, item: u32) -> bool {
     match fault {
         Some(ShapeFault::Shape { kind: k, item: i }) => *k == kind && *i == item,
         _ => false,
@@ -113,7 +122,7 @@ fn each_kind_comes_at_its_item(rt: HostRuntime) -> Result<(), ShapeFault> {
     Ok(())
 }
 
-fn is_limit(fault: &Option<ShapeFault>, limit: Limit) -> bool {
+pub(crate) fn is_limit(fault: &Option<ShapeFault>, limit: Limit) -> bool {
     match fault {
         Some(ShapeFault::Limit(l)) => *l == limit,
         _ => false,

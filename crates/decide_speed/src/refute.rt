@@ -1,7 +1,7 @@
 //! A verdict that nobody need believe: the checker accepts each derivation.
 
-ghost use Rattle.std.specs.Prelude.{◌≤◌, List, ℤ, IfOk, IsTrue};
-ghost use Rattle.az_lin.specs.Affine.{Holds};
+ghost use Rattle.std.specs.Prelude.{◌≤◌};
+ghost use Rattle.decide_speed.specs.Refutation.{IsRefutation};
 
 use az_lin::Conj;
 use farkas_check::{CheckFault, check};
@@ -11,7 +11,7 @@ use std::alloc::Global;
 /// Whether a derivation that the checker accepts refutes the system.
 pub fn is_refuted(alloc: Global, system: &Conj) -> Result<bool, FindFault>
     requires narrow { system.now.width ≤ 4096 }
-    ensures sound { IfOk result (λ refuted. IsTrue refuted → (z : List ℤ) → ¬ Holds system.now z) }
+    ensures answer { IsRefutation system.now result }
 {
     match decide(alloc, system)? {
         Decision::Refuted(derivation) => match check(alloc, system, &derivation) {

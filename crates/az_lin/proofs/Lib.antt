@@ -18,3 +18,5 @@ pub mod Undone
 pub mod KernelLaws
 pub mod LeastDenominator
 pub mod AddedProducts
+pub mod AllLists
+pub mod Derivations

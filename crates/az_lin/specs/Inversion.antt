@@ -20,7 +20,7 @@ is_positive (suc n) = true
 abbrev pub reaches : ℕ → Affine → Bool
 reaches j row = is_positive (unsigned_abs (entry j row))
 
--- 1 for the row 0, whose entries have no greatest common divisor
+-- 1 for the row of zeros, whose entries have no greatest common divisor
 abbrev pub at_least_one : ℕ → ℕ
 at_least_one zero = 1
 at_least_one (suc n) = suc n

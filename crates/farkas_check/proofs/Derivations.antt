@@ -1,6 +1,6 @@
 -- The rows after some steps, step by step.
 use Rattle.std.proofs.Common.{◌≡◌, ℕ, ◌+◌, ◌-◌, ◌<◌, ◌∙◌, sym, subst, ap, refl, arith, List, [], ◌∷◌, ◌++◌, length, take, get_or, append_assoc, pos, inl, inr}
-use Rattle.std.proofs.Common.{get_or-append-add, length-append}
+use Rattle.std.proofs.Common.{get_or-append-add}
 use Rattle.std.proofs.lemmas.List.{take_all, take_more, get_or_default}
 use Rattle.az_lin.specs.Affine.{Affine}
 use Rattle.az_lin.specs.Derivation.{row_at, row_of, rows_after, AllSteps, IsContradiction, EndsInContradiction, IsFirstBad}
@@ -15,10 +15,6 @@ AllSteps-push : (Good : List Affine → Step → Type 0) (rows : List Affine) (s
     → AllSteps Good rows (steps ++ step ∷ [])
 AllSteps-push Good rows [] step all good = (good, tt)
 AllSteps-push Good rows (first ∷ steps) step all good = (all.0, AllSteps-push Good (rows ++ row_of rows first ∷ []) steps step all.1 good)
-
-pub length-rows_after : (rows : List Affine) (steps : List Step) → length (rows_after rows steps) ≡ length rows + length steps
-length-rows_after rows [] = omega arith
-length-rows_after rows (step ∷ steps) = length-rows_after (rows ++ row_of rows step ∷ []) steps ∙ omega (arith, length-append rows (row_of rows step ∷ []))
 
 taken_more : (steps : List Step) (i : ℕ) (step : Step) → i < length steps → step ≡ get_or steps i step → take (i + 1) steps ≡ take i steps ++ step ∷ []
 taken_more steps i step here is =

@@ -12,7 +12,7 @@ use Rattle.az_lin.specs.declared.step.Step.{Step}
 use Rattle.az_lin.proofs.StepLaws.{value_at-combination, scaled_sum-nonneg, quotient-nonneg}
 use Rattle.farkas_check.specs.Verdict.{IsVerdict}
 use Rattle.farkas_check.specs.declared.fault.CheckFault.{CheckFault}
-use Rattle.farkas_check.proofs.Derivations.{length-rows_after}
+use Rattle.az_lin.proofs.Derivations.{length-rows_after}
 
 length-scaled_sums : (a : ℤ) (xs : List ℤ) (b : ℤ) (ys : List ℤ) → length xs ≡ length ys → length (scaled_sums a xs b ys) ≡ length xs
 length-scaled_sums a [] b ys e = refl

@@ -12,7 +12,7 @@ use Rattle.az_lin.specs.Derivation.{IsStep, IsExactStep, IsDerivation, row_at, r
 use Rattle.az_lin.specs.declared.step.Step.{Step}
 use Rattle.az_lin.proofs.Integers.{mul_comm_int, mul-add_int, add-mul_int, mul_assoc_int, mul_left_comm_int, mul-nonneg_int, floor_exact}
 use Rattle.farkas_check.specs.Directions.{coef_at, column_sum, BalancingMultipliers, HasConstantAtLastAlone}
-use Rattle.farkas_check.proofs.Derivations.{length-rows_after}
+use Rattle.az_lin.proofs.Derivations.{length-rows_after}
 use Rattle.farkas_check.proofs.Soundness.{same_width, derivation_from_exact}
 use Rattle.farkas_check.specs.Verdict.{IsVerdict}
 use Rattle.farkas_check.specs.declared.fault.CheckFault.{CheckFault}

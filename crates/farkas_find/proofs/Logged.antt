@@ -11,11 +11,12 @@ use Rattle.az_lin.specs.Derivation.{row_at as row_made}
 use Rattle.az_lin.specs.declared.step.Step.{Step}
 use Rattle.az_lin.proofs.DivisorLaws.{gcd_of_all-is_gcd}
 use Rattle.az_lin.proofs.WideSums.{HasWideEntries-quotient, wide_row_of_sums, quotient_by_one}
+use Rattle.az_lin.proofs.Derivations.{length-rows_after}
 use Rattle.farkas_find.specs.declared.numbered.Numbered.{Numbered}
 use Rattle.farkas_find.specs.declared.choice.Pair.{Pair}
 use Rattle.farkas_find.specs.Tidying.{row_at, is_rounded, rounded, rounded_rows, rounding_steps}
 use Rattle.farkas_find.specs.Combining.{IsPair, Fits, FitsAt, combined, combining_step, sum_without, plus_weight, minus_weight, at_least_one, combined_at, step_at, numbered_from}
-use Rattle.farkas_find.proofs.Pruning.{wide_once, wide_onces, once_nothings, row_once, one_divides, row_at-push, row_at-last, row_at-earlier, length-rows_after}
+use Rattle.farkas_find.proofs.Pruning.{wide_once, wide_onces, once_nothings, row_once, one_divides, row_at-push, row_at-last, row_at-earlier}
 
 -- steps in two parts
 pub AllSteps-append : (rows : List Affine) (xs ys : List Step) → AllSteps IsStep rows xs → AllSteps IsStep (rows_after rows xs) ys → AllSteps IsStep rows (xs ++ ys)

@@ -18,6 +18,7 @@ use Rattle.az_lin.specs.CommonDivisor.{DividesEach}
 use Rattle.az_lin.proofs.WideSums.{quotient_by_one}
 use Rattle.az_lin.specs.Derivation.{IsStep, row_at, sum_of, row_of, rows_after, AllSteps, IsContradiction, IsDerivation}
 use Rattle.az_lin.specs.declared.step.Step.{Step}
+use Rattle.az_lin.proofs.Derivations.{length-rows_after}
 use Rattle.farkas_find.specs.Needed.{names, needed, new_number, renumbered, needed_steps, itself, derivation_of, EachNamesBefore}
 
 or_first : (a b : Bool) → a ≡ true → (a || b) ≡ true
@@ -311,10 +312,6 @@ names_staying target given steps before k d inside flag =
       left = number_stays target given steps k d (get_or steps k d).i named.left inside flag (λ n e. left_named n (get_or steps k d) e);
       right = number_stays target given steps k d (get_or steps k d).j named.right inside flag (λ n e. right_named n (get_or steps k d) e);
     }
-
-pub length-rows_after : (rows : List Affine) (steps : List Step) → length (rows_after rows steps) ≡ length rows + length steps
-length-rows_after rows [] = omega arith
-length-rows_after rows (step ∷ steps) = length-rows_after (rows ++ row_of rows step ∷ []) steps ∙ omega (arith, length-append rows (row_of rows step ∷ []))
 
 Tracks-start : (given : ℕ) (flags : List Bool) (rows : List Affine) → length rows ≡ given → Tracks given flags rows rows
 Tracks-start given flags rows e = record {

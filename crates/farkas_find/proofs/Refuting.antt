@@ -14,6 +14,7 @@ use Rattle.az_lin.specs.Combination.{HasWideEntries}
 use Rattle.az_lin.specs.Derivation.{IsStep, IsContradiction, IsDerivation, AllSteps}
 use Rattle.az_lin.specs.Derivation.{row_at as row_made, rows_after as made_after}
 use Rattle.az_lin.specs.declared.step.Step.{Step}
+use Rattle.az_lin.proofs.Derivations.{length-rows_after}
 use Rattle.farkas_find.specs.declared.numbered.Numbered.{Numbered}
 use Rattle.farkas_find.specs.declared.choice.Choice.{Choice}
 use Rattle.farkas_find.specs.declared.trail.Stage.{Stage}
@@ -27,7 +28,7 @@ use Rattle.farkas_find.specs.Nexts.{IsChoice}
 use Rattle.farkas_find.proofs.Keeping.{All-picked}
 use Rattle.farkas_find.proofs.Chosen.{choice-is_choice}
 use Rattle.farkas_find.proofs.Paired.{pairs_for-are_pairs}
-use Rattle.farkas_find.proofs.Pruning.{derivation_of-derives, length-rows_after}
+use Rattle.farkas_find.proofs.Pruning.{derivation_of-derives}
 use Rattle.farkas_find.proofs.Logged.{IsMade, Logged, wide_after, AllSteps-append, rows_after-append, all_made_after, rounding-logged, combining-logged}
 
 -- a stage whose rows the log makes from the given ones

@@ -6,6 +6,7 @@ use Rattle.std.proofs.lemmas.Bool.{eqb-true}
 use Rattle.std.proofs.lemmas.List.{length-map, map_more}
 use Rattle.std.proofs.lemmas.List.Elements.{recursion_from_All}
 use Rattle.std.proofs.lemmas.Map.Steps.{length-le_from_distinct_below}
+use Rattle.az_lin.proofs.AllLists.{all_snoc}
 use Rattle.az_ast.specs.declared.program.Equation.{Equation}
 use Rattle.az_ast.specs.declared.program.Variable.{Variable}
 use Rattle.az_ast.specs.Shapes.{equation_kind}
@@ -14,23 +15,19 @@ use Rattle.az_ast.proofs.ShapeParts.{none_holds, neither, equation_tests}
 abbrev pub numbers : List Equation → List ℕ
 numbers equations = map (λ (e : Equation). e.variable) equations
 
-either : (a b : Bool) → (a || b) ≡ true → (a ≡ true) ⊎ (b ≡ true)
+pub either : (a b : Bool) → (a || b) ≡ true → (a ≡ true) ⊎ (b ≡ true)
 either true b e = inl refl
 either false b e = inr e
 
--- a number behind others that differ from it
-all_snoc : {A : Type 0} (P : A → Type 0) (xs : List A) (y : A) → AllByRecursion P xs → P y → AllByRecursion P (xs ++ y ∷ [])
-all_snoc P [] y h p = (p, tt)
-all_snoc P (x ∷ xs) y h p = (h.0, all_snoc P xs y h.1 p)
-
-distinct_snoc : (xs : List ℕ) (y : ℕ) → IsDistinct ◌==◌ xs → AllByRecursion (λ x. (x == y) ≡ false) xs → IsDistinct ◌==◌ (xs ++ y ∷ [])
+-- an item behind others that differ from it
+pub distinct_snoc : {A : Type 0} (eq : A → A → Bool) (xs : List A) (y : A) → IsDistinct eq xs → AllByRecursion (λ x. eq x y ≡ false) xs → IsDistinct eq (xs ++ y ∷ [])
 unfolding IsDistinct
-distinct_snoc [] y d h = (tt, tt)
-distinct_snoc (x ∷ xs) y d h = (all_snoc (λ z. (x == z) ≡ false) xs y d.0 h.0, distinct_snoc xs y d.1 h.1)
+distinct_snoc eq [] y d h = (tt, tt)
+distinct_snoc eq (x ∷ xs) y d h = (all_snoc (λ z. eq x z ≡ false) xs y d.0 h.0, distinct_snoc eq xs y d.1 h.1)
 
-pub distinct_none : IsDistinct ◌==◌ []
+pub distinct_none : {A : Type 0} (eq : A → A → Bool) → IsDistinct eq []
 unfolding IsDistinct
-distinct_none = tt
+distinct_none eq = tt
 
 differ : (equations : List Equation) (y : ℕ) → list_any (λ (e : Equation). e.variable == y) equations ≡ false → AllByRecursion (λ x. (x == y) ≡ false) (numbers equations)
 differ [] y h = tt
@@ -43,7 +40,7 @@ module _ (params : ℕ) (variables : List Variable) (equations : List Equation) 
       IsDistinct ◌==◌ (numbers (take i equations)) → IsDistinct ◌==◌ (numbers (take (i + 1) equations))
   distinct_more i e within here kind d =
       subst (IsDistinct ◌==◌) (sym (map_more (λ (q : Equation). q.variable) equations i e within ∙ ap (λ (q : Equation). numbers (take i equations) ++ q.variable ∷ []) (sym here)))
-      (distinct_snoc (numbers (take i equations)) e.variable d (differ (take i equations) e.variable (none_holds (equation_tests params variables (take i equations) e) kind).1.1.0))
+      (distinct_snoc ◌==◌ (numbers (take i equations)) e.variable d (differ (take i equations) e.variable (none_holds (equation_tests params variables (take i equations) e) kind).1.1.0))
 
   below : (es : List Equation) → AllByRecursion (λ (e : Equation). e.variable < length variables) es → (i q : ℕ) → list_any (◌==◌ q) (numbers (take i es)) ≡ true → q < length variables
   below [] h zero q e = cc

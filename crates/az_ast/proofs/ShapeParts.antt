@@ -18,11 +18,11 @@ use Rattle.az_ast.specs.Term.{term}
 use Rattle.az_ast.specs.Walks.{parts}
 use Rattle.az_ast.specs.declared.fault.ShapeKind.TheVariants.{Arity, InputEquation, TwoEquations, BadReduce}
 
-or_assoc : {A : Type 0} (a b c : Option A) → option_or (option_or a b) c ≡ option_or a (option_or b c)
+pub or_assoc : {A : Type 0} (a b c : Option A) → option_or (option_or a b) c ≡ option_or a (option_or b c)
 or_assoc None b c = refl
 or_assoc (Some x) b c = refl
 
-first_kind-append : (n : ℕ) (xs ys : List (Option ShapeKind)) → first_kind n (xs ++ ys) ≡ option_or (first_kind n xs) (first_kind (n + length xs) ys)
+pub first_kind-append : (n : ℕ) (xs ys : List (Option ShapeKind)) → first_kind n (xs ++ ys) ≡ option_or (first_kind n xs) (first_kind (n + length xs) ys)
 first_kind-append n [] ys = ap (λ m. first_kind m ys) (sym (add-zero n))
 first_kind-append n (kind ∷ xs) ys =
     let here = option_map (λ k. Shape k n) kind in
@@ -30,7 +30,7 @@ first_kind-append n (kind ∷ xs) ys =
     ap (option_or here) (first_kind-append (suc n) xs ys ∙ ap (λ m. option_or (first_kind (suc n) xs) (first_kind m ys)) at)
     ∙ sym (or_assoc here (first_kind (suc n) xs) (first_kind (n + suc (length xs)) ys))
 
-length-kinds_after : {A : Type 0} (kind : List A → A → Option ShapeKind) (earlier xs : List A) → length (kinds_after kind earlier xs) ≡ length xs
+pub length-kinds_after : {A : Type 0} (kind : List A → A → Option ShapeKind) (earlier xs : List A) → length (kinds_after kind earlier xs) ≡ length xs
 length-kinds_after kind earlier [] = refl
 length-kinds_after kind earlier (x ∷ xs) = ap suc (length-kinds_after kind (earlier ++ x ∷ []) xs)
 

@@ -11,3 +11,4 @@ pub mod Loop
 pub mod Given
 pub mod Spans
 pub mod Pieces
+pub mod WordTokens

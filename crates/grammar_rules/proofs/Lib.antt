@@ -12,3 +12,4 @@ pub mod Tokens
 pub mod SumRules
 pub mod Turns
 pub mod ReadBy
+pub mod Yields

@@ -1,4 +1,5 @@
 use Rattle.std.proofs.Common.{rules, ◌≡◌, ◌+◌, ◌≤◌, length, take, refl, sym, ◌∙◌, arith, None, add-zero, add-one, add-suc}
+use Rattle.std.specs.Prelude.{◌==◌}
 use Rattle.az_ast.specs.Shapes.{equation_kind}
 use Rattle.az_ast.proofs.ItemSteps.{passed}
 use Rattle.az_ast.proofs.DistinctNumbers.{distinct_none, distinct_more, few_so_far}
@@ -8,7 +9,7 @@ few : (c : goal.In-Some) → c.items.place ≤ length c.args.variables.now
 few c = few_so_far c.args.params c.args.variables.now c.args.equations.now c.items.place (omega arith) c.requires.declared c.items.invariant.distinct
 
 pub items-init : goal.items-init
-items-init c = record { rest = rw add-zero refl; distinct = distinct_none }
+items-init c = record { rest = rw add-zero refl; distinct = distinct_none ◌==◌ }
 
 pub overflow_cast-item-in-Some : goal.overflow_cast-item-in-Some
 overflow_cast-item-in-Some c = let b = few c in let r = c.requires.few in omega (arith, b, r)

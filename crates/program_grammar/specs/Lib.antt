@@ -4,4 +4,5 @@ pub mod Values
 pub mod Grammar
 pub mod Readers
 pub mod Readings
+pub mod Written
 pub mod Printed

@@ -21,6 +21,7 @@ mod words;
 pub use equations::read_tokens;
 pub use fault::TextFault;
 pub use laws::printed_rules_are_same;
+pub use size::is_within;
 pub use text::read_text;
 pub use tree::{
     Branch, Chain, Declaration, Equation, Expr, Link, Operator, ProgramText, Relation, Term,

@@ -31,7 +31,7 @@ fn spend_all(branches: &[Branch], left: u32) -> Option<u32>
 }
 
 /// Whether an expression has at most so many nodes.
-pub(crate) fn is_within(expr: &Expr, limit: u32) -> bool
+pub fn is_within(expr: &Expr, limit: u32) -> bool
     ensures { result ≡ nat_le (nodes expr.now) limit }
 {
     spend(expr, limit).is_some()

@@ -1,8 +1,9 @@
 //! The program of a text.
 
-ghost use Rattle.std.specs.Prelude.{◌≡◌, ◌++◌, List, length};
+ghost use Rattle.std.specs.Prelude.{◌≡◌, ◌++◌, List, length, IfOk};
 ghost use Rattle.az_text.specs.declared.token.Token.{Token};
 ghost use Rattle.program_grammar.specs.Readings.{IsReadingOf, place_of};
+ghost use Rattle.program_grammar.specs.Written.{IsWritten};
 
 use crate::{ProgramText, TextFault, read_tokens};
 use az_text::{LexFault, Token, lex};
@@ -21,7 +22,8 @@ fn place(text: &[u8], tokens: &[Token], remaining: usize) -> usize
 
 /// The program of a text as it is written, or why it has none.
 pub fn read_text(alloc: Global, text: &[u8]) -> Result<ProgramText, TextFault>
-    ensures { IsReadingOf text.now result }
+    ensures reading { IsReadingOf text.now result }
+    ensures written { IfOk result IsWritten }
 {
     let tokens = match lex(alloc, text) {
         Ok(tokens) => tokens,

@@ -1,0 +1,11 @@
+pub mod Sides
+pub mod Pieces
+pub mod Extras
+pub mod Resolved
+pub mod Branches
+pub mod Refusals
+pub mod Columns
+pub mod Totals
+pub mod Decisions
+pub mod PieceOf
+pub mod Answers

@@ -1,3 +1,2 @@
-pub mod Expected
-pub mod FirstForm
-pub mod Refusal
+pub mod Faults
+pub mod Answers

@@ -1,29 +1,43 @@
--- A program of the form is evaluated unless the desk fails or memory runs out.
-use Rattle.std.proofs.Common.{◌≡◌, ℕ, ◌<◌, ◌≤◌, ◌^◌, List, [], ◌∷◌, codes, length, subst, sym, arith, ap, get_or}
+-- A program that is evaluated today is evaluated unless the desk fails or memory runs out.
+use Rattle.std.proofs.Common.{◌≡◌, ℕ, ◌<◌, ◌≤◌, ◌^◌, List, [], ◌∷◌, codes, length, subst, sym, arith, ap, get_or, inl, inr}
 use Rattle.std.specs.Prelude.{Option, Some, String, string_bytes}
 use Rattle.std.specs.declared.alloc.Global.{Global}
 use Rattle.az_ast.specs.System.{System}
 use Rattle.az_desk.specs.Desk.{Rose}
 use Rattle.az_desk.specs.Files.{Files, content_of}
-use Rattle.alphabets_read.specs.FirstForm.{IsTextOf}
+use Rattle.az_text.specs.declared.fault.LexFault.TheVariants.{BadByte as BadByteAt, WideNumber as WideNumberAt}
+use Rattle.alphabets_read.specs.Answers.{IsProgramOf, IsFaultOf}
+use Rattle.alphabets_read.specs.declared.fault.ReadFault as faults
+use Rattle.alphabets_read.specs.declared.fault.ReadFault.TheVariants as fault
+use Rattle.alphabets_read.proofs.Once.{no_fault, one_program}
+use Rattle.alphaz_cli.specs.Evaluable.{IsEvaluable}
 use Rattle.alphaz_cli.specs.declared.status.Outcome.{Outcome}
-use Rattle.alphaz_cli.specs.declared.status.Outcome.TheVariants.{Done, Usage, ReadFault, WriteFault, Text, Limited, Memory}
+use Rattle.alphaz_cli.specs.declared.status.Outcome.TheVariants.{Done, Usage, ReadFault, WriteFault, Text, Shape, Limited, Memory}
 use Rattle.alphaz_cli.specs.declared.status.TextKind.{TextKind}
 use Rattle.alphaz_cli.specs.declared.status.TextKind.TheVariants.{Syntax, BadByte, WideNumber}
-use Rattle.alphaz_cli.specs.Listing.{Change, Ends, IsRunnable, IsDoneOrMemory, HasText, HasLongText, GivesText}
+use Rattle.alphaz_cli.specs.Listing.{Change, Ends, IsRunnable, IsDoneOrMemory, HasText, HasLongText, IsCauseAt}
 use Rattle.alphaz_cli.specs.Words.{Evaluates, IsPlain, texts}
 
 one_file : (words : List (List ℕ)) (f g : List ℕ) → Evaluates words f → Evaluates words g → f ≡ g
 one_file words f g p q = cc (p.words_are, q.words_are)
 
-no_text : (words : List (List ℕ)) (files : Option Files) (told : Files) (file other text listing : List ℕ) (program : System) (kind : TextKind) (place : ℕ)
-    → files ≡ Some told → IsRunnable words told file program → Evaluates words other → HasText files other text → GivesText text other kind place listing → ⊥
-no_text words files told file other text listing program Syntax place is runs asked has gives =
+-- the text that was read is that of the file
+whole : (words : List (List ℕ)) (files : Option Files) (told : Files) (file other text : List ℕ) (program : System)
+    → files ≡ Some told → IsRunnable words told file program → Evaluates words other → HasText files other text → IsProgramOf text program
+whole words files told file other text program is runs asked has =
     let same : other ≡ file = one_file words other file asked runs.asked in
-    let whole : text ≡ content_of told file = subst (λ f. text ≡ content_of told f) same (has.0 told is) in
-    gives.none program (subst (λ t. IsTextOf t program) (sym whole) runs.is_text)
-no_text words files told file other text listing program BadByte place is runs asked has gives = gives
-no_text words files told file other text listing program WideNumber place is runs asked has gives = gives
+    let content : text ≡ content_of told file = subst (λ f. text ≡ content_of told f) same (has.0 told is) in
+    subst (λ t. IsProgramOf t program) (sym content) runs.is_text
+
+no_fault_of : (text : List ℕ) (program : System) → IsProgramOf text program → (other : faults.ReadFault) → (other ≡ fault.Memory → ⊥) → IsFaultOf text other → ⊥
+no_fault_of text program is other differs h = differs (no_fault text program is other h)
+
+-- a program that is evaluated has no cause to be refused
+no_cause : (text : List ℕ) (program : System) → IsProgramOf text program → IsEvaluable program → (kind : TextKind) (place : ℕ) → IsCauseAt text kind place → ⊥
+no_cause text program is evaluable Syntax place (inl h) = no_fault_of text program is (fault.Syntax place) (λ e. cc) h
+no_cause text program is evaluable Syntax place (inr h) = h.1.none (subst IsEvaluable (sym (one_program text program is h.1.program h.1.is_text)) evaluable)
+no_cause text program is evaluable BadByte place h = no_fault_of text program is (fault.Lex (BadByteAt place)) (λ e. cc) h
+no_cause text program is evaluable WideNumber place h = no_fault_of text program is (fault.Lex (WideNumberAt place)) (λ e. cc) h
 
 not_long : (words : List (List ℕ)) (files : Option Files) (told : Files) (file other : List ℕ) (program : System)
     → files ≡ Some told → IsRunnable words told file program → Evaluates words other → HasLongText files other → ⊥
@@ -41,9 +55,13 @@ complete words files change Usage (listing, is_it, said) told file program is ru
 complete words files change (ReadFault name) ends told file program is runs honest = honest ends.rose
 complete words files change WriteFault ends told file program is runs honest = honest ends.rose
 complete words files change (Text name kind place) (listing, is_it, said) told file program is runs honest =
-    no_text words files told file is_it.file is_it.text listing program kind place is runs is_it.asked is_it.has_text is_it.gives.1
-complete words files change (Limited kind) (listing, is_it, said) told file program is runs honest =
+    no_cause is_it.text program (whole words files told file is_it.file is_it.text program is runs is_it.asked is_it.has_text) runs.evaluable kind place is_it.gives.1.cause
+complete words files change (Shape kind item) (listing, is_it, said) told file program is runs honest =
+    no_fault_of is_it.text program (whole words files told file is_it.file is_it.text program is runs is_it.asked is_it.has_text) (fault.Shape kind item) (λ e. cc) is_it.gives.cause
+complete words files change (Limited kind) (listing, inl is_it, said) told file program is runs honest =
     not_long words files told file is_it.file program is runs is_it.asked is_it.long
+complete words files change (Limited kind) (listing, inr is_it, said) told file program is runs honest =
+    no_fault_of is_it.text program (whole words files told file is_it.file is_it.text program is runs is_it.asked is_it.has_text) (fault.Limit kind) (λ e. cc) is_it.gives.cause
 complete words files change Memory ends told file program is runs honest = tt
 
 -- the two words of an evaluation

@@ -6,9 +6,9 @@ use Rattle.az_desk.specs.declared.fault.DeskFault.{DeskFault}
 use Rattle.az_desk.specs.declared.fault.DeskFault.TheVariants.{TooLong}
 use Rattle.az_desk.specs.Files.{Files}
 use Rattle.alphaz_cli.specs.declared.status.Outcome.{Outcome}
-use Rattle.alphaz_cli.specs.declared.status.Outcome.TheVariants.{Done, Usage, ReadFault, WriteFault, Text, Limited, Memory}
+use Rattle.alphaz_cli.specs.declared.status.Outcome.TheVariants.{Done, Usage, ReadFault, WriteFault, Text, Shape, Limited, Memory}
 use Rattle.alphaz_cli.specs.Listing.{Change, SaidWhole, IsListing, TextGives, HasText, HasLongText, Ends, Evaluated, Says}
-use Rattle.alphaz_cli.specs.Lines.{file_limit_line, usage_line}
+use Rattle.alphaz_cli.specs.Lines.{limit_line, usage_line}
 use Rattle.alphaz_cli.specs.Words.{Evaluates}
 use Rattle.az_lin.specs.declared.limit.Limit.TheVariants as limit
 
@@ -19,6 +19,7 @@ module _ (words : List (List ℕ)) (files : Option Files) (change : Change) (lis
   ends_whole (ReadFault name) is said = absurd is
   ends_whole WriteFault is said = absurd is
   ends_whole (Text name kind place) is said = (listing, is, said)
+  ends_whole (Shape kind item) is said = (listing, is, said)
   ends_whole (Limited kind) is said = (listing, is, said)
   ends_whole Memory is said = absurd is
 
@@ -36,7 +37,8 @@ module _ (words : List (List ℕ)) (files : Option Files) (change : Change) (lis
   listing_of_text file text (ReadFault name) asked has gives = absurd gives
   listing_of_text file text WriteFault asked has gives = absurd gives
   listing_of_text file text (Text name kind place) asked has gives = record { file = file; text = text; asked = asked; has_text = has; gives = gives }
-  listing_of_text file text (Limited kind) asked has gives = absurd gives
+  listing_of_text file text (Shape kind item) asked has gives = record { file = file; text = text; asked = asked; has_text = has; gives = gives }
+  listing_of_text file text (Limited kind) asked has gives = inr (record { file = file; text = text; asked = asked; has_text = has; gives = gives })
   listing_of_text file text Memory asked has gives = absurd gives
 
 pub evaluated_text : (file text listing : List ℕ) (files : Option Files) (change : Change) (wanted answer : Outcome)
@@ -45,11 +47,11 @@ evaluated_text file text listing files change wanted answer has gives says =
     λ words asked. ends_said words files change listing wanted answer (listing_of_text words files change listing file text wanted asked has gives) says
 
 pub evaluated_long : (file : List ℕ) (files : Option Files) (change : Change) (answer : Outcome)
-    → HasLongText files file → Says file_limit_line (Limited limit.File) change answer → Evaluated file files change answer
+    → HasLongText files file → Says (limit_line limit.File) (Limited limit.File) change answer → Evaluated file files change answer
 evaluated_long file files change answer long says =
     λ words asked.
-    ends_said words files change file_limit_line (Limited limit.File) answer
-    (record { file = file; asked = asked; long = long; is_file = refl; line = refl }) says
+    ends_said words files change (limit_line limit.File) (Limited limit.File) answer
+    (inl (record { file = file; asked = asked; long = long; is_file = refl; line = refl })) says
 
 -- A read changes neither what was said nor, where it succeeds or finds too much, the count.
 pub after_read_text : (file name text read listing bytes : List ℕ) (files : Option Files) (before between after : Option (List ℕ)) (faults mid now : ℕ) (wanted answer : Outcome)
@@ -66,7 +68,7 @@ after_read_text file name text read listing bytes files before between after fau
     (evaluated_text file text bytes files (record { said_before = between; said_after = after; faults_before = mid; faults_after = now }) wanted answer (reads'.1, reads'.0) gives' says))
 
 pub after_read_long : (file bytes : List ℕ) (files : Option Files) (before between after : Option (List ℕ)) (faults mid now : ℕ) (answer : Outcome) (fault : DeskFault)
-    → fault ≡ TooLong → bytes ≡ file_limit_line → Reads files file (Err fault)
+    → fault ≡ TooLong → bytes ≡ (limit_line limit.File) → Reads files file (Err fault)
     → Says bytes (Limited limit.File) (record { said_before = between; said_after = after; faults_before = mid; faults_after = now }) answer
     → between ≡ before → UnlessFailed {T = List ℕ} (Err fault) (mid ≡ faults)
     → Evaluated file files (record { said_before = before; said_after = after; faults_before = faults; faults_after = now }) answer

@@ -1,3 +1,5 @@
+pub mod Intervals
+pub mod Programs
 pub mod RowText
 pub mod Endings
 pub mod Complete

@@ -1,17 +1,17 @@
 -- The rows of an interval, as they are written one after the other.
-use Rattle.std.proofs.Common.{◌≡◌, ℕ, zero, suc, ◌+◌, List, [], ◌∷◌, ◌++◌, append_assoc, append-nil, refl, sym, ap, arith, subst, ◌∙◌, ◌<◌, ◌^◌, to_z, of_z, FitsSigned, unsigned_abs}
+use Rattle.std.proofs.Common.{◌≡◌, ℕ, zero, suc, ◌+◌, List, [], ◌∷◌, ◌++◌, append_assoc, append-nil, refl, sym, ap, arith, subst, ◌∙◌, ◌<◌, ◌^◌, to_z, of_z, FitsSigned}
 use Rattle.std.specs.Int.{w64, w128}
-use Rattle.std.specs.Prelude.{ℤ, pos, neg_ℤ, ◌-ℤ◌, ◌+ℤ◌, ◌*ℤ◌, Result, Ok, Err, IfOk, String, string_bytes}
+use Rattle.std.specs.Prelude.{ℤ, pos, ◌+ℤ◌, ◌*ℤ◌, Result, Ok, Err, IfOk, String, string_bytes}
 use Rattle.std.specs.FinMap.{empty}
 use Rattle.std.specs.declared.alloc.Global.{Global}
 use Rattle.std.specs.declared.alloc.AllocError.{AllocError}
 use Rattle.az_ast.specs.System.{System}
-use Rattle.alphabets_read.specs.FirstForm.{Form, program_of}
+use Rattle.alphaz_cli.specs.Evaluable.{IsEvaluable, Picks}
 use Rattle.alphaz_cli.specs.Rows.{count_between}
 use Rattle.std.specs.Fmt.{decimal, signed_decimal}
 use Rattle.std.proofs.lemmas.Int.{ints, to_z-of_z, fits_signed_from_abs, SFits-int_wrap}
 use Rattle.az_lin.specs.Affine.{Affine, value_at}
-use Rattle.az_ast.specs.FirstForm.{ramp_lines}
+use Rattle.az_ast.specs.FirstForm.{ramp, ramp_lines}
 use Rattle.az_ast.specs.Operators.{wrapped}
 use Rattle.az_ast.specs.OutputRows.{row_of, AreOutputRows}
 use Rattle.az_ast.proofs.Ramp.{ramp_lines-more, ramp-rows, ramp-no_rows}
@@ -33,28 +33,28 @@ next_row name a b low step text new so_far more =
     ∙ ap (λ v. ramp_lines name a b (pos low) step ++ row_of name (pos (low + step) ∷ []) (wrapped v)) (value_is a b (pos (low + step)))
     ∙ sym (ramp_lines-more name a b (pos low) step)
 
-module _ (form : Form) where
-  rows_of : (count : ℕ) → count ≡ count_between form.low form.high
-      → AreOutputRows (program_of form) empty [] (ramp_lines form.output (pos form.factor) (pos form.offset) (pos form.low) count)
-  rows_of zero e = ramp-no_rows form.program form.output (pos form.low) (pos form.high) (pos form.factor) (pos form.offset) empty (omega (arith, ints))
+module _ (p : System) (is : IsEvaluable p) where
+  rows_of : (count : ℕ) → count ≡ count_between is.low is.high
+      → AreOutputRows (ramp p.name is.output (pos is.low) (pos is.high) (pos is.factor) (pos is.offset)) empty [] (ramp_lines is.output (pos is.factor) (pos is.offset) (pos is.low) count)
+  rows_of zero e = ramp-no_rows p.name is.output (pos is.low) (pos is.high) (pos is.factor) (pos is.offset) empty (omega (arith, ints))
   rows_of (suc n) e =
-      ramp-rows form.program form.output (pos form.low) (pos form.high) (pos form.factor) (pos form.offset) empty (suc n)
-      (let sum : form.low + suc n ≡ form.high + 1 = omega arith in ap pos sum)
+      ramp-rows p.name is.output (pos is.low) (pos is.high) (pos is.factor) (pos is.offset) empty (suc n)
+      (let sum : is.low + suc n ≡ is.high + 1 = omega arith in ap pos sum)
 
-  -- What is written of the interval and the row of a program of the form are its output rows.
-  pub written_rows : (p : System) (name : List ℕ) (value : Affine) (low high : ℕ) (answer : Result (String Global) AllocError)
-      → p ≡ program_of form → name ≡ form.output → value ≡ record { coefs = pos form.factor ∷ []; konst = pos form.offset } → low ≡ form.low → high ≡ form.high
-      → IfOk answer (λ text. (a b : ℤ) → value ≡ record { coefs = a ∷ []; konst = b } → string_bytes text ≡ ramp_lines name a b (pos low) (count_between low high))
-      → IfOk answer (λ rows. AreOutputRows p empty [] (string_bytes rows))
-  written_rows p name value low high (Ok text) is_p is_name is_value is_low is_high h =
-      let lines : string_bytes text ≡ ramp_lines form.output (pos form.factor) (pos form.offset) (pos form.low) (count_between form.low form.high) =
-      h (pos form.factor) (pos form.offset) is_value
-      ∙ ap (λ n. ramp_lines n (pos form.factor) (pos form.offset) (pos low) (count_between low high)) is_name
-      ∙ ap (λ l. ramp_lines form.output (pos form.factor) (pos form.offset) (pos l) (count_between l high)) is_low
-      ∙ ap (λ k. ramp_lines form.output (pos form.factor) (pos form.offset) (pos form.low) (count_between form.low k)) is_high in
-      subst (λ q. AreOutputRows q empty [] (string_bytes text)) (sym is_p)
-      (subst (λ t. AreOutputRows (program_of form) empty [] t) (sym lines) (rows_of (count_between form.low form.high) refl))
-  written_rows p name value low high (Err fault) is_p is_name is_value is_low is_high h = tt
+-- What is written of the interval and the row that are picked out of a program are its output rows.
+pub written_rows : (name : List ℕ) (value : Affine) (low high : ℕ) (answer : Result (String Global) AllocError)
+    → IfOk answer (λ text. (a b : ℤ) → value ≡ record { coefs = a ∷ []; konst = b } → string_bytes text ≡ ramp_lines name a b (pos low) (count_between low high))
+    → IfOk answer (λ rows. (p : System) → Picks p name value low high → AreOutputRows p empty [] (string_bytes rows))
+written_rows name value low high (Ok text) h = λ p picks.
+    let is = picks.is in
+    let lines : string_bytes text ≡ ramp_lines is.output (pos is.factor) (pos is.offset) (pos is.low) (count_between is.low is.high) =
+    h (pos is.factor) (pos is.offset) picks.value_is
+    ∙ ap (λ n. ramp_lines n (pos is.factor) (pos is.offset) (pos low) (count_between low high)) picks.named
+    ∙ ap (λ l. ramp_lines is.output (pos is.factor) (pos is.offset) (pos l) (count_between l high)) picks.from
+    ∙ ap (λ k. ramp_lines is.output (pos is.factor) (pos is.offset) (pos is.low) (count_between is.low k)) picks.to in
+    subst (λ q. AreOutputRows q empty [] (string_bytes text)) (sym is.meant)
+    (subst (λ t. AreOutputRows (ramp p.name is.output (pos is.low) (pos is.high) (pos is.factor) (pos is.offset)) empty [] t) (sym lines) (rows_of p is (count_between is.low is.high) refl))
+written_rows name value low high (Err fault) h = tt
 
 -- an index as it stands in a word
 pub word_is : (z : ℤ) (n : ℕ) → z ≡ pos n → n < 2 ^ 32 → to_z w128 (of_z w128 z) ≡ pos n
@@ -67,15 +67,3 @@ pub row_value : (row : Affine) (a b : ℤ) (i : ℕ) (value word : ℤ) → row 
 row_value row a b i value word is_row is_value fits is_word =
     let whole = is_word ∙ ap wrapped (to_z-of_z w128 value fits ∙ is_value ∙ ap (λ r. value_at r (pos i ∷ [])) is_row) in
     to_z-of_z w64 word (subst (λ y. FitsSigned w64 y) (sym is_word) (SFits-int_wrap w64 (to_z w128 (of_z w128 value)))) ∙ whole
-
--- the ends of the interval, as they are read from the rows
-pub low_is : (konst : ℤ) (low : ℕ) → konst ≡ neg_ℤ (pos low) → low < 1000000
-    → unsigned_abs (to_z w128 (of_z w128 (pos 0 -ℤ to_z w128 (of_z w128 konst)))) ≡ low
-low_is konst low e small =
-    let fits : FitsSigned w128 (neg_ℤ (pos low)) = fits_signed_from_abs w128 (neg_ℤ (pos low)) (omega (arith, ints)) in
-    rw (e, to_z-of_z w128 (neg_ℤ (pos low)) fits) (
-    let back : pos 0 -ℤ neg_ℤ (pos low) ≡ pos low = omega (arith, ints) in
-    rw (back, to_z-of_z w128 (pos low) (fits_signed_from_abs w128 (pos low) (omega arith))) refl)
-
-pub high_is : (konst : ℤ) (high : ℕ) → konst ≡ pos high → high < 1000000 → unsigned_abs (to_z w128 (of_z w128 konst)) ≡ high
-high_is konst high e small = rw (e, to_z-of_z w128 (pos high) (fits_signed_from_abs w128 (pos high) (omega arith))) refl

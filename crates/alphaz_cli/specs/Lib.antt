@@ -1,3 +1,4 @@
+pub mod Evaluable
 pub mod Lines
 pub mod Listing
 pub mod Rows

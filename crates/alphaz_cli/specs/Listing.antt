@@ -8,30 +8,47 @@ use Rattle.az_ast.specs.System.{System}
 use Rattle.az_ast.specs.OutputRows.{AreOutputRows}
 use Rattle.az_desk.specs.Desk.{Rose, SaysSome}
 use Rattle.az_desk.specs.Files.{Files, content_of}
-use Rattle.alphabets_read.specs.FirstForm.{IsTextOf}
+use Rattle.az_ast.specs.declared.fault.ShapeKind.{ShapeKind}
+use Rattle.az_text.specs.declared.fault.LexFault.TheVariants.{BadByte as BadByteAt, WideNumber as WideNumberAt}
+use Rattle.alphabets_read.specs.Answers.{IsProgramOf, IsFaultOf}
+use Rattle.alphabets_read.specs.declared.fault.ReadFault.TheVariants as fault
 use Rattle.alphaz_cli.specs.declared.status.Outcome.{Outcome}
-use Rattle.alphaz_cli.specs.declared.status.Outcome.TheVariants.{Done, Usage, ReadFault, WriteFault, Text, Limited, Memory}
+use Rattle.alphaz_cli.specs.declared.status.Outcome.TheVariants.{Done, Usage, ReadFault, WriteFault, Text, Shape, Limited, Memory}
 use Rattle.alphaz_cli.specs.declared.status.TextKind.{TextKind}
 use Rattle.alphaz_cli.specs.declared.status.TextKind.TheVariants.{Syntax, BadByte, WideNumber}
-use Rattle.alphaz_cli.specs.Lines.{usage_line, syntax_line, file_limit_line}
+use Rattle.alphaz_cli.specs.Evaluable.{IsEvaluable}
+use Rattle.alphaz_cli.specs.Lines.{usage_line, text_line, shape_line, limit_line}
 use Rattle.alphaz_cli.specs.Words.{Evaluates}
 
--- A text that is read as a program gives the program's output rows. One that isn't gives a line with a
--- place in the text or at its end.
+-- What is said of a text: the output rows of the program that it says, or the cause and the place for
+-- which it is refused. A program that isn't evaluated yet is answered as a text that can't go on at its
+-- first byte.
 pub record GivesRows (text listing : List ℕ) : Type 0 where
   pub program : System
-  pub is_text : IsTextOf text program
+  pub is_text : IsProgramOf text program
   pub rows : AreOutputRows program empty [] listing
 
-pub record GivesSyntax (text file : List ℕ) (place : ℕ) (listing : List ℕ) : Type 0 where
-  pub none : (program : System) → IsTextOf text program → ⊥
-  pub within : place ≤ length text
-  pub line : listing ≡ syntax_line file place
+pub record IsNotEvaluated (text : List ℕ) : Type 0 where
+  pub program : System
+  pub is_text : IsProgramOf text program
+  pub none : IsEvaluable program → ⊥
 
-abbrev pub GivesText : List ℕ → List ℕ → TextKind → ℕ → List ℕ → Type 0
-GivesText text file Syntax place listing = GivesSyntax text file place listing
-GivesText text file BadByte place listing = ⊥
-GivesText text file WideNumber place listing = ⊥
+abbrev pub IsCauseAt : List ℕ → TextKind → ℕ → Type 0
+IsCauseAt text Syntax place = IsFaultOf text (fault.Syntax place) ⊎ ((place ≡ 0) × IsNotEvaluated text)
+IsCauseAt text BadByte place = IsFaultOf text (fault.Lex (BadByteAt place))
+IsCauseAt text WideNumber place = IsFaultOf text (fault.Lex (WideNumberAt place))
+
+pub record GivesText (text file : List ℕ) (kind : TextKind) (place : ℕ) (listing : List ℕ) : Type 0 where
+  pub cause : IsCauseAt text kind place
+  pub line : listing ≡ text_line kind file place
+
+pub record GivesShape (text : List ℕ) (kind : ShapeKind) (item : ℕ) (listing : List ℕ) : Type 0 where
+  pub cause : IsFaultOf text (fault.Shape kind item)
+  pub line : listing ≡ shape_line kind item
+
+pub record GivesLimit (text : List ℕ) (kind : Limit) (listing : List ℕ) : Type 0 where
+  pub cause : IsFaultOf text (fault.Limit kind)
+  pub line : listing ≡ limit_line kind
 
 -- the answer, and the listing, of a text under that name
 abbrev pub TextGives : List ℕ → List ℕ → Outcome → List ℕ → Type 0
@@ -40,7 +57,8 @@ TextGives file text Usage listing = ⊥
 TextGives file text (ReadFault name) listing = ⊥
 TextGives file text WriteFault listing = ⊥
 TextGives file text (Text name kind place) listing = (name ≡ file) × GivesText text file kind place listing
-TextGives file text (Limited kind) listing = ⊥
+TextGives file text (Shape kind item) listing = GivesShape text kind item listing
+TextGives file text (Limited kind) listing = GivesLimit text kind listing
 TextGives file text Memory listing = ⊥
 
 -- the text under a name, of a desk that tells its files
@@ -66,7 +84,7 @@ pub record LimitListing (words : List (List ℕ)) (files : Option Files) (kind :
   pub asked : Evaluates words file
   pub long : HasLongText files file
   pub is_file : kind ≡ limit.File
-  pub line : listing ≡ file_limit_line
+  pub line : listing ≡ limit_line limit.File
 
 -- The whole listing of a run, with the answer it ends with where nothing fails and memory suffices.
 abbrev pub IsListing : List (List ℕ) → Option Files → Outcome → List ℕ → Type 0
@@ -75,7 +93,8 @@ IsListing words files Usage listing = UsageListing words listing
 IsListing words files (ReadFault name) listing = ⊥
 IsListing words files WriteFault listing = ⊥
 IsListing words files (Text name kind place) listing = TextListing words files (Text name kind place) listing
-IsListing words files (Limited kind) listing = LimitListing words files kind listing
+IsListing words files (Shape kind item) listing = TextListing words files (Shape kind item) listing
+IsListing words files (Limited kind) listing = LimitListing words files kind listing ⊎ TextListing words files (Limited kind) listing
 IsListing words files Memory listing = ⊥
 
 -- what was said before a run, and after it; and the desk's count of faults
@@ -116,6 +135,7 @@ Ends words files change Usage = WasSaid change (IsListing words files Usage)
 Ends words files change (ReadFault name) = EndsAtRead words change name
 Ends words files change WriteFault = EndsAtSay words files change
 Ends words files change (Text name kind place) = WasSaid change (IsListing words files (Text name kind place))
+Ends words files change (Shape kind item) = WasSaid change (IsListing words files (Shape kind item))
 Ends words files change (Limited kind) = WasSaid change (IsListing words files (Limited kind))
 Ends words files change Memory = SaidNothing change
 
@@ -139,10 +159,11 @@ pub record IsUnsaid (change : Change) (answer : Outcome) : Type 0 where
 abbrev pub Says : List ℕ → Outcome → Change → Outcome → Type 0
 Says listing wanted change answer = IsSaid listing wanted change answer ⊎ (IsCutShort listing change answer ⊎ IsUnsaid change answer)
 
--- A file that is a program's text is evaluated, if no fault comes.
+-- A file that says a program that is evaluated today is evaluated, if no fault comes.
 pub record IsRunnable (words : List (List ℕ)) (told : Files) (file : List ℕ) (program : System) : Type 0 where
   pub asked : Evaluates words file
-  pub is_text : IsTextOf (content_of told file) program
+  pub is_text : IsProgramOf (content_of told file) program
+  pub evaluable : IsEvaluable program
   pub short : length (content_of told file) ≤ 2 ^ 24
 
 abbrev pub IsDoneOrMemory : Outcome → Type 0
@@ -151,6 +172,7 @@ IsDoneOrMemory Usage = ⊥
 IsDoneOrMemory (ReadFault name) = ⊥
 IsDoneOrMemory WriteFault = ⊥
 IsDoneOrMemory (Text name kind place) = ⊥
+IsDoneOrMemory (Shape kind item) = ⊥
 IsDoneOrMemory (Limited kind) = ⊥
 IsDoneOrMemory Memory = Unit {0}
 
@@ -161,5 +183,6 @@ code_of Usage = 2
 code_of (ReadFault name) = 3
 code_of WriteFault = 4
 code_of (Text name kind place) = 5
+code_of (Shape kind item) = 6
 code_of (Limited kind) = 11
 code_of Memory = 13

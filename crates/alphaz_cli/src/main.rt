@@ -4,6 +4,7 @@
 #![tactic(auto)]
 
 mod eval;
+mod interval;
 mod lines;
 mod rows;
 mod run;

@@ -1,15 +1,15 @@
-//! The output rows of the programs that are read today.
+//! The output rows of the programs that are evaluated today.
 
 ghost use Rattle.std.specs.Prelude.{◌≡◌, ◌+◌, ◌<◌, ◌∷◌, [], ◌++◌, ℤ, pos, length, OnOk, IfOk, IfSome, IfNone, string_bytes};
-ghost use Rattle.az_lin.specs.Affine.{Affine};
-ghost use Rattle.az_ast.specs.declared.expr.Expr.TheVariants.{Index};
 ghost use Rattle.std.specs.FinMap.{empty};
 ghost use Rattle.az_ast.specs.FirstForm.{ramp_lines};
 ghost use Rattle.az_ast.specs.OutputRows.{row_of, AreOutputRows};
-ghost use Rattle.alphabets_read.specs.FirstForm.{IsOfForm};
+ghost use Rattle.az_ast.specs.System.{System};
+ghost use Rattle.alphaz_cli.specs.Evaluable.{Picks};
 ghost use Rattle.alphaz_cli.specs.Rows.{count_between};
 
-use az_ast::{Expr, Program, wrap};
+use crate::interval::Ramp;
+use az_ast::wrap;
 use az_lin::Row;
 use std::alloc::{AllocError, Global};
 
@@ -47,34 +47,10 @@ fn rows_between(
     Ok(text)
 }
 
-/// The row of an index expression.
-fn index_row(body: &Expr) -> Option<&Row>
-    ensures found { IfSome result (λ row. body.now ≡ Index row.now) }
-    ensures none { IfNone result ((row : Affine) → body.now ≡ Index row → ⊥) }
-{
-    match body {
-        Expr::Index(row) => Some(row),
-        _ => None,
-    }
-}
-
 /// The rows of the one output, over its interval.
-pub(crate) fn output_rows(alloc: Global, program: &Program) -> Result<String, AllocError>
-    requires { IsOfForm program.now }
-    ensures { IfOk result (λ rows. AreOutputRows program.now empty [] (string_bytes rows)) }
+pub(crate) fn output_rows(alloc: Global, ramp: &Ramp<'_>) -> Result<String, AllocError>
+    requires { (p : System) × Picks p ramp.now.output.now ramp.now.value.now ramp.now.low ramp.now.high }
+    ensures { IfOk result (λ rows. (p : System) → Picks p ramp.now.output.now ramp.now.value.now ramp.now.low ramp.now.high → AreOutputRows p empty [] (string_bytes rows)) }
 {
-    match (program.variables(), program.equations()) {
-        ([output], [equation]) => match (output.domain.disjuncts(), index_row(&equation.body)) {
-            ([interval], Some(value)) => match interval.rows() {
-                [above, below] => {
-                    let low = (-above.konst()) as u32;
-                    let high = below.konst() as u32;
-                    rows_between(alloc, output.name.as_str(), value, low, high)
-                }
-                _ => unreachable!(),
-            },
-            _ => unreachable!(),
-        },
-        _ => unreachable!(),
-    }
+    rows_between(alloc, ramp.output, ramp.value, ramp.low, ramp.high)
 }

@@ -3,6 +3,7 @@
 ghost use Rattle.std.specs.Prelude.{◌≡◌};
 ghost use Rattle.alphaz_cli.specs.Listing.{code_of};
 
+use az_ast::ShapeKind;
 use az_lin::{Limit, Name};
 
 /// What is wrong with a text.
@@ -26,6 +27,8 @@ pub enum Outcome {
     WriteFault,
     /// The file, what is wrong with its text, and the place in bytes.
     Text(Name, TextKind, usize),
+    /// The rule on a program's shape that fails, and the item at which it does.
+    Shape(ShapeKind, u32),
     /// The count that was exceeded.
     Limited(Limit),
     /// Memory ran out.
@@ -49,6 +52,7 @@ impl Outcome {
             Outcome::ReadFault(_) => 3,
             Outcome::WriteFault => 4,
             Outcome::Text(_, _, _) => 5,
+            Outcome::Shape(_, _) => 6,
             Outcome::Limited(_) => 11,
             Outcome::Memory => 13,
         }

@@ -56,15 +56,15 @@ const CASES: [Case; 12] = [
         words: &["eval", "ramp.ab"],
         text: "affine Ramp {|} output X {i | 0<=j<=3}; let X[i] = [2*i+1]; .",
         failure: None,
-        code: 5,
-        said: "alphaz: 5 Syntax ramp.ab at 33\n",
+        code: 6,
+        said: "alphaz: 6 Shape UnknownName item 1\n",
     },
     Case {
         words: &["eval", "ramp.ab"],
         text: "affine Ramp ?",
         failure: None,
         code: 5,
-        said: "alphaz: 5 Syntax ramp.ab at 12\n",
+        said: "alphaz: 5 BadByte ramp.ab at 12\n",
     },
     Case {
         words: &["eval", "ramp.ab"],
@@ -110,13 +110,155 @@ const CASES: [Case; 12] = [
     },
 ];
 
+/// Texts of the file `p.ab`, and what is answered for each, with its status.
+struct Text {
+    text: &'static str,
+    code: u8,
+    said: &'static str,
+}
+
+const TEXTS: [Text; 25] = [
+    Text {
+        text: "affine P {| ]",
+        code: 5,
+        said: "alphaz: 5 Syntax p.ab at 12\n",
+    },
+    Text {
+        text: "affine P {|}",
+        code: 5,
+        said: "alphaz: 5 Syntax p.ab at 12\n",
+    },
+    Text {
+        text: "affine P ?",
+        code: 5,
+        said: "alphaz: 5 BadByte p.ab at 9\n",
+    },
+    Text {
+        text: "affine P {| 170141183460469231731687303715884105728",
+        code: 5,
+        said: "alphaz: 5 WideNumber p.ab at 12\n",
+    },
+    Text {
+        text: "affine P {|} output X {|}; let .",
+        code: 6,
+        said: "alphaz: 6 Shape NoEquation item 1\n",
+    },
+    Text {
+        text: "affine P {i0|} let .",
+        code: 6,
+        said: "alphaz: 6 Shape Reserved item 0\n",
+    },
+    Text {
+        text: "affine P {N,N|} let .",
+        code: 6,
+        said: "alphaz: 6 Shape TwiceName item 0\n",
+    },
+    Text {
+        text: "affine P {|} output X {|}; let X[] = 9223372036854775808; .",
+        code: 6,
+        said: "alphaz: 6 Shape Literal item 2\n",
+    },
+    Text {
+        text: "affine P {N | N<=1152921504606846976} let .",
+        code: 6,
+        said: "alphaz: 6 Shape Entry item 0\n",
+    },
+    Text {
+        text: "affine P {|} output X {i|}; let X[] = 1; .",
+        code: 6,
+        said: "alphaz: 6 Shape Arity item 2\n",
+    },
+    Text {
+        text: "affine P {|} input A {|}; let A[] = 1; .",
+        code: 6,
+        said: "alphaz: 6 Shape InputEquation item 2\n",
+    },
+    Text {
+        text: "affine P {|} output X {|}; let X[] = 1; X[] = 1; .",
+        code: 6,
+        said: "alphaz: 6 Shape TwoEquations item 3\n",
+    },
+    Text {
+        text: "affine P {a,b,c,d,e,f,g,h,j|} let .",
+        code: 11,
+        said: "alphaz: 11 Limit Names\n",
+    },
+    Text {
+        text: "affine P {|} input A {a,b,c,d,e,f,g,h,j|}; let .",
+        code: 11,
+        said: "alphaz: 11 Limit Columns\n",
+    },
+    Text {
+        text: "affine P {|} input A {| || || || || || || || || }; let .",
+        code: 11,
+        said: "alphaz: 11 Limit Disjuncts\n",
+    },
+    // programs that aren't evaluated yet, each for one reason
+    Text {
+        text: PREFIX,
+        code: 5,
+        said: NOT_YET,
+    },
+    Text {
+        text: "affine P {N|} output X {i | 0<=i<=3}; let X[i] = [2*i+1]; .",
+        code: 5,
+        said: NOT_YET,
+    },
+    Text {
+        text: "affine P {|0<=1} output X {i | 0<=i<=3}; let X[i] = [2*i+1]; .",
+        code: 5,
+        said: NOT_YET,
+    },
+    Text {
+        text: "affine P {|} local X {i | 0<=i<=3}; let X[i] = [2*i+1]; .",
+        code: 5,
+        said: NOT_YET,
+    },
+    Text {
+        text: "affine P {|} output X {i | 0<=i<=1000000}; let X[i] = [2*i+1]; .",
+        code: 5,
+        said: NOT_YET,
+    },
+    Text {
+        text: "affine P {|} output X {i | -1<=i<=3}; let X[i] = [2*i+1]; .",
+        code: 5,
+        said: NOT_YET,
+    },
+    Text {
+        text: "affine P {|} output X {i | 0<=2*i<=3}; let X[i] = [2*i+1]; .",
+        code: 5,
+        said: NOT_YET,
+    },
+    Text {
+        text: "affine P {|} output X {i | 0<=i<=3 || i=9}; let X[i] = [2*i+1]; .",
+        code: 5,
+        said: NOT_YET,
+    },
+    Text {
+        text: "affine P {|} output X {i | 0<=i<=3}; let X[i] = [1-i]; .",
+        code: 5,
+        said: NOT_YET,
+    },
+    Text {
+        text: "affine P {|} output X {i | 0<=i<=3}; let X[i] = 7; .",
+        code: 5,
+        said: NOT_YET,
+    },
+];
+
+const PREFIX: &str =
+    "affine Prefix {N | N>=0}\ninput\n  int A {i | 0<=i<N};\noutput\n  int S {i | 0<=i<N};\nlet\n  S[i] = case {| i=0} : A[i]; {| i>0} : S[i-1] + A[i]; esac;\n.\n";
+
+const NOT_YET: &str = "alphaz: 5 Syntax p.ab at 0\n";
+
 fn desk_with(
     alloc: Global,
+    file: &str,
     text: List<u8>,
     failure: Option<(u64, usize)>,
 ) -> Result<MemoryDesk, Fail> {
     let mut files = List::new(alloc);
-    files.push((Name::from_str(alloc, "ramp.ab")?, text))?;
+    files.push((Name::from_str(alloc, file)?, text))?;
     let mut failures = List::new(alloc);
     if let Some((call, kept)) = failure {
         failures.push(Failure { call, kept })?;
@@ -137,8 +279,21 @@ fn each_case_answers_and_says(rt: HostRuntime) -> Result<(), Fail> {
     let alloc = rt.alloc();
     for case in &CASES {
         let text = List::from_vec(Vec::from_slice(alloc, case.text.as_bytes())?);
-        let mut desk = desk_with(alloc, text, case.failure)?;
+        let mut desk = desk_with(alloc, "ramp.ab", text, case.failure)?;
         let status = run(alloc, case.words, &mut desk)?;
+        assert_eq!(rt; status.code, case.code);
+        assert_eq!(rt; desk.contents().said(), case.said.as_bytes());
+    }
+    Ok(())
+}
+
+#[test]
+fn each_text_is_answered(rt: HostRuntime) -> Result<(), Fail> {
+    let alloc = rt.alloc();
+    for case in &TEXTS {
+        let text = List::from_vec(Vec::from_slice(alloc, case.text.as_bytes())?);
+        let mut desk = desk_with(alloc, "p.ab", text, None)?;
+        let status = run(alloc, &["eval", "p.ab"], &mut desk)?;
         assert_eq!(rt; status.code, case.code);
         assert_eq!(rt; desk.contents().said(), case.said.as_bytes());
     }
@@ -149,7 +304,7 @@ fn each_case_answers_and_says(rt: HostRuntime) -> Result<(), Fail> {
 fn a_failed_read_names_its_file(rt: HostRuntime) -> Result<(), Fail> {
     let alloc = rt.alloc();
     let text = List::from_vec(Vec::from_slice(alloc, RAMP.as_bytes())?);
-    let mut desk = desk_with(alloc, text, Some((0, 0)))?;
+    let mut desk = desk_with(alloc, "ramp.ab", text, Some((0, 0)))?;
     let status = run(alloc, &["eval", "ramp.ab"], &mut desk)?;
     match &status.answer {
         Outcome::ReadFault(name) => assert_eq!(rt; name.as_str(), "ramp.ab"),
@@ -162,7 +317,7 @@ fn a_failed_read_names_its_file(rt: HostRuntime) -> Result<(), Fail> {
 fn a_long_file_is_refused(rt: HostRuntime) -> Result<(), Fail> {
     let alloc = rt.alloc();
     let text = List::from_vec(vec![in alloc; b' '; (1 << 24) + 1]?);
-    let mut desk = desk_with(alloc, text, None)?;
+    let mut desk = desk_with(alloc, "ramp.ab", text, None)?;
     let status = run(alloc, &["eval", "ramp.ab"], &mut desk)?;
     assert_eq!(rt; status.code, 11);
     assert_eq!(rt;

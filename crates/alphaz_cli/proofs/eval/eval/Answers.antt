@@ -1,3 +1,4 @@
+use Rattle.std.proofs.Common.{◌∙◌}
 use Rattle.std.specs.Prelude.{string_bytes}
 use Rattle.alphaz_cli.proofs.Endings.{after_read_text, after_read_long}
 use Rattle.alphaz_cli.proofs.eval.eval.Goals as goal
@@ -10,5 +11,5 @@ returns-in-Ok-listing-clause-ends g c =
 
 pub returns-in-Err-TooLong-clause-ends : goal.returns-in-Err-TooLong-clause-ends
 returns-in-Err-TooLong-clause-ends g c =
-    after_read_long c.args.file.now c.as_bytes-line.result.now _ _ _ _ _ _ _ c.say-in-Err-TooLong.result c.in-Err-TooLong.field-0 c.in-Err-TooLong.field-0-is c.as_bytes-line.ensures.value c.in-Err-TooLong.ensures.answer
-    c.say-in-Err-TooLong.ensures.said c.read.ensures.same_said c.in-Err-TooLong.ensures.cause.kept
+    after_read_long c.args.file.now c.as_bytes-in-Err-TooLong.result.now _ _ _ _ _ _ _ c.say-in-Err-TooLong.result c.in-Err-TooLong.field-0 c.in-Err-TooLong.field-0-is
+    (c.as_bytes-in-Err-TooLong.ensures.value ∙ c.in-Ok-limit.ensures) c.in-Err-TooLong.ensures.answer c.say-in-Err-TooLong.ensures.said c.read.ensures.same_said c.in-Err-TooLong.ensures.cause.kept

@@ -7,9 +7,10 @@ ghost use Rattle.program_names.specs.Refusals.{has_entry_out};
 ghost use Rattle.program_names.specs.Sides.{row_of, less, differences, of_chain, of_chains, conjunction_of};
 
 use crate::difference::Difference;
+use crate::links::differences;
 use crate::scope::Scope;
 use az_lin::{Conj, LinFault, List, Row};
-use program_grammar::{Chain, Link, Relation, Term};
+use program_grammar::{Chain, Link, Term};
 use std::alloc::Global;
 
 /// The rows, and one more.
@@ -41,16 +42,11 @@ fn with_link(
     ensures ok { IfOk result (λ more. more ≡ rows ++ map (row_of scope.now) (differences link.now.relation left.now link.now.side)) }
     ensures cause { IfErr result (λ fault. fault ≡ Memory) }
 {
-    let right = link.side.as_slice();
-    match link.relation {
-        Relation::AtMost => with_row(alloc, scope, &Difference::new(right, left, false), rows),
-        Relation::Below => with_row(alloc, scope, &Difference::new(right, left, true), rows),
-        Relation::AtLeast => with_row(alloc, scope, &Difference::new(left, right, false), rows),
-        Relation::Above => with_row(alloc, scope, &Difference::new(left, right, true), rows),
-        Relation::Equal => {
-            let more = with_row(alloc, scope, &Difference::new(left, right, false), rows)?;
-            with_row(alloc, scope, &Difference::new(right, left, false), more)
-        }
+    let (first, second) = differences(left, link);
+    let more = with_row(alloc, scope, &first, rows)?;
+    match second {
+        Some(second) => with_row(alloc, scope, &second, more),
+        None => Ok(more),
     }
 }
 

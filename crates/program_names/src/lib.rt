@@ -16,6 +16,7 @@ mod items;
 mod kinds;
 mod leaves;
 mod limits;
+mod links;
 mod maps;
 mod parts;
 mod piece;

@@ -4,33 +4,26 @@ ghost use Rattle.std.specs.Prelude.{◌≡◌, map, length};
 ghost use Rattle.std.specs.List.{list_any};
 ghost use Rattle.program_names.specs.Pieces as pieces;
 ghost use Rattle.program_names.specs.Pieces.{rows, domain_pieces};
-ghost use Rattle.program_names.specs.Sides.{less, alone, differences, of_links, of_chain};
+ghost use Rattle.program_names.specs.Sides.{alone, differences, of_links, of_chain};
 
 use crate::difference::Difference;
+use crate::links::differences;
 use crate::piece::{Piece, PieceTest};
 use crate::scope::Scope;
 use az_lin::List;
-use program_grammar::{Chain, Link, Relation, Term};
+use program_grammar::{Chain, Link, Term};
 
-fn is_wanted<P: PieceTest>(
-    test: &P,
-    scope: &Scope<'_>,
-    left: &[Term],
-    right: &[Term],
-    strict: bool,
-) -> bool
-    ensures { result ≡ P.wants test.now (pieces.row scope.now (less left.now right.now strict)) }
+fn is_wanted<P: PieceTest>(test: &P, scope: &Scope<'_>, difference: &Difference<'_>) -> bool
+    ensures { result ≡ P.wants test.now (pieces.row scope.now difference.now) }
 {
-    let difference = Difference::new(left, right, strict);
-    test.is_wanted(&Piece::Row(scope, &difference))
+    test.is_wanted(&Piece::Row(scope, difference))
 }
 
 /// Whether the row of a side alone passes.
 pub(crate) fn is_side_wanted<P: PieceTest>(test: &P, scope: &Scope<'_>, side: &[Term]) -> bool
     ensures { result ≡ P.wants test.now (pieces.row scope.now (alone side.now)) }
 {
-    let difference = Difference::alone(side);
-    test.is_wanted(&Piece::Row(scope, &difference))
+    is_wanted(test, scope, &Difference::alone(side))
 }
 
 /// Whether the row of one of the sides passes.
@@ -46,15 +39,13 @@ pub(crate) fn some_side<P: PieceTest>(test: &P, scope: &Scope<'_>, sides: &[List
 fn some_of_link<P: PieceTest>(test: &P, scope: &Scope<'_>, left: &[Term], link: &Link) -> bool
     ensures { result ≡ list_any (P.wants test.now) (map (pieces.row scope.now) (differences link.now.relation left.now link.now.side)) }
 {
-    let right = link.side.as_slice();
-    match link.relation {
-        Relation::AtMost => is_wanted(test, scope, right, left, false),
-        Relation::Below => is_wanted(test, scope, right, left, true),
-        Relation::AtLeast => is_wanted(test, scope, left, right, false),
-        Relation::Above => is_wanted(test, scope, left, right, true),
-        Relation::Equal => {
-            is_wanted(test, scope, left, right, false) || is_wanted(test, scope, right, left, false)
-        }
+    let (first, second) = differences(left, link);
+    if is_wanted(test, scope, &first) {
+        return true;
+    }
+    match second {
+        Some(second) => is_wanted(test, scope, &second),
+        None => false,
     }
 }
 

@@ -1,70 +1,80 @@
--- A text has one answer: it says no second program, and no fault beside its program.
-use Rattle.std.proofs.Common.{◌≡◌, ℕ, List, Ok, Err, refl, sym, ap, subst, ◌∙◌, arith, inl, inr}
-use Rattle.std.specs.Prelude.{Result}
-use Rattle.az_text.specs.Reading.{Reads}
-use Rattle.az_text.specs.declared.fault.LexFault.{LexFault}
-use Rattle.az_text.specs.declared.fault.LexFault.TheVariants as lex
-use Rattle.az_text.specs.declared.token.Token.{Token}
-use Rattle.az_text.proofs.Walk.{lexed_only}
+-- At most one answer fits a text, but that memory ran out: what is answered is found from the reading of the
+-- text, and there is one.
+use Rattle.std.proofs.Common.{◌≡◌, ℕ, List, Ok, Err, refl, sym, ap, subst, ◌∙◌, inl, inr}
+use Rattle.std.specs.Prelude.{Option, Some, None, Result}
 use Rattle.az_ast.specs.System.{System}
 use Rattle.az_ast.specs.declared.fault.ShapeFault.{ShapeFault}
 use Rattle.az_ast.specs.declared.fault.ShapeFault.TheVariants as shape
+use Rattle.az_lin.specs.declared.limit.Limit.{Limit as LimitName}
+use Rattle.az_lin.specs.declared.limit.Limit.TheVariants.{Size as OfSize}
+use Rattle.grammar_rules.proofs.TextReadings.{one_reading}
+use Rattle.grammar_rules.specs.declared.fault.TextFault.{TextFault}
+use Rattle.grammar_rules.specs.declared.fault.TextFault.TheVariants as text
 use Rattle.program_grammar.specs.Grammar.{program}
 use Rattle.program_grammar.specs.Readings.{IsReadingOf}
-use Rattle.program_grammar.specs.declared.fault.TextFault.{TextFault}
-use Rattle.program_grammar.specs.declared.fault.TextFault.TheVariants as text
 use Rattle.program_grammar.specs.declared.tree.ProgramText.{ProgramText}
+use Rattle.program_names.specs.ProgramOf.{IsProgramOf}
+use Rattle.program_names.specs.Refusals.{refusal_of}
 use Rattle.program_names.specs.Resolved.{system_of}
-use Rattle.alphabets_read.specs.Answers.{IsProgramOf, IsRefused, IsFaultOf, IsAnswerOf, IsUnlessMemory}
+use Rattle.alphabets_read.specs.Answers.{IsRefused, IsFaultOf, IsAnswerOf}
+use Rattle.alphabets_read.specs.Faults.{of_text, of_shape}
 use Rattle.alphabets_read.specs.declared.fault.ReadFault.{ReadFault}
 use Rattle.alphabets_read.specs.declared.fault.ReadFault.TheVariants.{Lex, Syntax, Shape, Limit, Memory}
 
-one_lexing : (bytes : List ℕ) (a b : Result (List Token) LexFault) → Reads 0 bytes a → Reads 0 bytes b → a ≡ b
-one_lexing bytes a b r s = lexed_only r ∙ sym (lexed_only s)
+-- the answer of a reading
+abbrev resolved : Option ShapeFault → System → Result System ReadFault
+resolved None p = Ok p
+resolved (Some fault) p = Err (of_shape fault)
 
-module _ (bytes : List ℕ) (written : ProgramText) (read : IsReadingOf bytes (Ok written)) where
-  -- what the grammar takes of the tokens of a second lexing
-  taken : (tokens : List Token) → Reads 0 bytes (Ok tokens) → program.takes tokens read.2.taken.0 written
-  taken tokens reads =
-      let lexing = one_lexing bytes (Ok read.0) (Ok tokens) read.1 reads in
-      let same : read.0 ≡ tokens = cc in
-      subst (λ (ts : List Token). program.takes ts read.2.taken.0 written) same read.2.taken.2
+abbrev outcome : Result ProgramText TextFault → Result System ReadFault
+outcome (Ok written) = resolved (refusal_of written) (system_of written)
+outcome (Err fault) = Err (of_text fault)
 
-  one_tree : (other : ProgramText) → IsReadingOf bytes (Ok other) → written ≡ other
-  one_tree other reads = reads.2.alone read.2.taken.0 written (taken reads.0 reads.1)
+record HasReading (bytes : List ℕ) (answer : Result System ReadFault) : Type 0 where
+  reading : Result ProgramText TextFault
+  is : IsReadingOf bytes reading
+  no_memory : reading ≡ Err text.Memory → ⊥
+  gives : answer ≡ outcome reading
 
-  no_text_fault : (fault : TextFault) → IsReadingOf bytes (Err fault) → fault ≡ text.Memory
-  no_text_fault (text.Lex (lex.BadByte place)) reads = let lexing = one_lexing bytes (Ok read.0) (Err (lex.BadByte place)) read.1 reads in cc
-  no_text_fault (text.Lex (lex.WideNumber place)) reads = let lexing = one_lexing bytes (Ok read.0) (Err (lex.WideNumber place)) read.1 reads in cc
-  no_text_fault (text.Lex lex.Memory) reads = absurd reads
-  no_text_fault (text.Syntax place) reads = absurd (reads.2.3.no_sentence read.2.taken.0 written (taken reads.0 reads.1))
-  no_text_fault text.Size reads =
-      let heavy = reads.2.no_sentence read.2.taken.0 written (taken reads.0 reads.1) in
-      let light = read.2.taken.1 in
-      absurd (omega (arith, heavy, light))
-  no_text_fault text.Memory reads = refl
+of_refused : (bytes : List ℕ) (fault : ShapeFault) → IsRefused bytes fault → HasReading bytes (Err (of_shape fault))
+of_refused bytes fault refused = record {
+  reading = Ok refused.written;
+  is = refused.read;
+  no_memory = λ e. cc;
+  gives = subst (λ (o : Option ShapeFault). Err (of_shape fault) ≡ resolved o (system_of refused.written)) (sym refused.refused) refl;
+}
 
-module _ (bytes : List ℕ) (p : System) (is : IsProgramOf bytes p) where
-  not_refused : (fault : ShapeFault) → IsRefused bytes fault → ⊥
-  not_refused fault refused =
-      let same = one_tree bytes is.written is.read refused.written refused.read in
-      let accepted = is.means.accepted in
-      let answered = refused.refused in
-      cc
+has_reading : (bytes : List ℕ) (answer : Result System ReadFault) → IsAnswerOf bytes answer → (answer ≡ Err Memory → ⊥) → HasReading bytes answer
+has_reading bytes (Ok p) is differs = record {
+  reading = Ok is.written;
+  is = is.read;
+  no_memory = λ e. cc;
+  gives = subst (λ (o : Option ShapeFault). Ok p ≡ resolved o (system_of is.written)) (sym is.means.accepted) (ap Ok is.means.meant);
+}
+has_reading bytes (Err (Lex fault)) is differs = record { reading = Err (text.Lex fault); is = is; no_memory = λ e. cc; gives = refl }
+has_reading bytes (Err (Syntax place)) is differs = record { reading = Err (text.Syntax place); is = is; no_memory = λ e. cc; gives = refl }
+has_reading bytes (Err (Shape kind item)) is differs = of_refused bytes (shape.Shape kind item) is
+has_reading bytes (Err (Limit limit)) (inl is) differs = record {
+  reading = Err text.Size;
+  is = is.1;
+  no_memory = λ e. cc;
+  gives = ap (λ (l : LimitName). Err (Limit l)) is.0;
+}
+has_reading bytes (Err (Limit limit)) (inr is) differs = of_refused bytes (shape.Limit limit) is
+has_reading bytes (Err Memory) is differs = absurd (differs refl)
 
-  pub no_fault : (fault : ReadFault) → IsFaultOf bytes fault → fault ≡ Memory
-  no_fault (Lex fault) h = let e = no_text_fault bytes is.written is.read (text.Lex fault) h in cc
-  no_fault (Syntax place) h = let e = no_text_fault bytes is.written is.read (text.Syntax place) h in cc
-  no_fault (Shape kind item) h = absurd (not_refused (shape.Shape kind item) h)
-  no_fault (Limit limit) (inl h) = let e = no_text_fault bytes is.written is.read text.Size h.1 in cc
-  no_fault (Limit limit) (inr h) = absurd (not_refused (shape.Limit limit) h)
-  no_fault Memory h = refl
+pub one_answer : (bytes : List ℕ) (one other : Result System ReadFault) → IsAnswerOf bytes one → IsAnswerOf bytes other → (one ≡ Err Memory → ⊥) → (other ≡ Err Memory → ⊥) → one ≡ other
+one_answer bytes one other is is' m n =
+    let first = has_reading bytes one is m in
+    let second = has_reading bytes other is' n in
+    first.gives ∙ (ap outcome (one_reading program 0 bytes first.reading second.reading first.is second.is first.no_memory second.no_memory) ∙ sym second.gives)
 
-  pub one_program : (q : System) → IsProgramOf bytes q → q ≡ p
-  one_program q other =
-      let same = one_tree bytes is.written is.read other.written other.read in
-      other.means.meant ∙ (ap system_of (sym same) ∙ sym is.means.meant)
+pub no_fault : (bytes : List ℕ) (p : System) → IsProgramOf bytes p → (fault : ReadFault) → IsFaultOf bytes fault → (fault ≡ Memory → ⊥) → ⊥
+no_fault bytes p is fault refused differs =
+    let same : Ok p ≡ Err fault = one_answer bytes (Ok p) (Err fault) is refused (λ e. cc) (λ e. differs (cc)) in
+    cc
 
-  pub one_answer : (r : Result System ReadFault) → IsAnswerOf bytes r → IsUnlessMemory p r
-  one_answer (Ok q) h = one_program q h
-  one_answer (Err fault) h = no_fault fault h
+pub one_program : (bytes : List ℕ) (p q : System) → IsProgramOf bytes p → IsProgramOf bytes q → q ≡ p
+one_program bytes p q is is' =
+    let same : Ok q ≡ Ok p = one_answer bytes (Ok q) (Ok p) is' is (λ e. cc) (λ e. cc) in
+    cc

@@ -7,19 +7,13 @@ use Rattle.az_lin.specs.declared.limit.Limit.TheVariants.{Size}
 use Rattle.az_ast.specs.System.{System}
 use Rattle.az_ast.specs.declared.fault.ShapeFault.{ShapeFault}
 use Rattle.az_ast.specs.declared.fault.ShapeFault.TheVariants as shape
-use Rattle.program_grammar.specs.declared.fault.TextFault.TheVariants as text
+use Rattle.grammar_rules.specs.declared.fault.TextFault.TheVariants as text
 use Rattle.program_grammar.specs.declared.tree.ProgramText.{ProgramText}
 use Rattle.program_grammar.specs.Readings.{IsReadingOf}
-use Rattle.program_names.specs.Answers.{Means}
+use Rattle.program_names.specs.ProgramOf.{IsProgramOf}
 use Rattle.program_names.specs.Refusals.{refusal_of}
 use Rattle.alphabets_read.specs.declared.fault.ReadFault.{ReadFault}
 use Rattle.alphabets_read.specs.declared.fault.ReadFault.TheVariants.{Lex, Syntax, Shape, Limit, Memory}
-
--- the program that a text says
-pub record IsProgramOf (bytes : List ℕ) (p : System) : Type 0 where
-  pub written : ProgramText
-  pub read : IsReadingOf bytes (Ok written)
-  pub means : Means written p
 
 -- a text that the grammar takes, and that is refused for its limits and shapes
 pub record IsRefused (bytes : List ℕ) (fault : ShapeFault) : Type 0 where
@@ -41,8 +35,3 @@ IsFaultOf bytes Memory = Unit {0}
 abbrev pub IsAnswerOf : List ℕ → Result System ReadFault → Type 0
 IsAnswerOf bytes (Ok p) = IsProgramOf bytes p
 IsAnswerOf bytes (Err fault) = IsFaultOf bytes fault
-
--- this program, unless memory ran out
-abbrev pub IsUnlessMemory : System → Result System ReadFault → Type 0
-IsUnlessMemory p (Ok read) = read ≡ p
-IsUnlessMemory p (Err fault) = fault ≡ Memory

@@ -4,8 +4,8 @@ use Rattle.alphabets_read.specs.declared.fault.ReadFault.TheVariants.{Lex, Synta
 use Rattle.az_ast.specs.declared.fault.ShapeFault.{ShapeFault}
 use Rattle.az_ast.specs.declared.fault.ShapeFault.TheVariants as shape
 use Rattle.az_lin.specs.declared.limit.Limit.TheVariants.{Size}
-use Rattle.program_grammar.specs.declared.fault.TextFault.{TextFault}
-use Rattle.program_grammar.specs.declared.fault.TextFault.TheVariants as text
+use Rattle.grammar_rules.specs.declared.fault.TextFault.{TextFault}
+use Rattle.grammar_rules.specs.declared.fault.TextFault.TheVariants as text
 
 abbrev pub of_text : TextFault → ReadFault
 of_text (text.Lex fault) = Lex fault

@@ -6,7 +6,7 @@ ghost use Rattle.alphabets_read.specs.Faults.{of_text, of_shape};
 use az_ast::{ShapeFault, ShapeKind};
 use az_lin::Limit;
 use az_text::LexFault;
-use program_grammar::TextFault;
+use grammar_rules::TextFault;
 
 #[derive(Debug, Drop)]
 pub enum ReadFault {

@@ -1,9 +1,11 @@
 //! From the text to the program.
 
-ghost use Rattle.std.specs.Prelude.{IfOk};
+ghost use Rattle.std.specs.Prelude.{◌≡◌, IfOk, IsErrOf, Result};
 ghost use Rattle.az_ast.specs.System.{System};
 ghost use Rattle.az_ast.specs.Writable.{IsWritable};
-ghost use Rattle.alphabets_read.specs.Answers.{IsAnswerOf, IsProgramOf, IsUnlessMemory};
+ghost use Rattle.alphabets_read.specs.declared.fault.ReadFault.{ReadFault};
+ghost use Rattle.alphabets_read.specs.declared.fault.ReadFault.TheVariants.{Memory};
+ghost use Rattle.alphabets_read.specs.Answers.{IsAnswerOf};
 
 use crate::ReadFault;
 use az_ast::Program;
@@ -27,8 +29,9 @@ fn read(alloc: Global, text: &[u8]) -> Result<Program, ReadFault>
 /// whichever a reading from left to right meets first; the other limits; the first item that is at fault.
 pub fn read_program(alloc: Global, text: &[u8]) -> Result<Program, ReadFault>
     ensures answer { IsAnswerOf text.now result }
-    // A text that says a program is read as that one.
-    ensures only { (p : System) → IsProgramOf text.now p → IsUnlessMemory p result }
+    // No other answer fits the text, but that memory ran out.
+    ensures only { (other : Result System ReadFault) → IsAnswerOf text.now other
+        → (IsErrOf other Memory → ⊥) → (IsErrOf result Memory → ⊥) → result ≡ other }
     // What is read can be written: its names may be names, and its cases have branches.
     ensures writable { IfOk result (λ p. IsWritable p) }
 {

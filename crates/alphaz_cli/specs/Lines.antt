@@ -9,7 +9,7 @@ use Rattle.alphaz_cli.specs.declared.status.TextKind.{TextKind}
 use Rattle.alphaz_cli.specs.declared.status.TextKind.TheVariants.{Syntax, BadByte, WideNumber}
 
 abbrev pub usage_line : List ℕ
-usage_line = codes "usage: eval PROGRAM [NAME=N or NAME@FILE]... ; run SCRIPT [--workers K] ; check SCRIPT CERTIFICATE ; make N [--workers K]\n"
+usage_line = codes "alphaz: 2 usage: eval PROGRAM [NAME=N or NAME@FILE]... ; run SCRIPT [--workers K] ; check SCRIPT CERTIFICATE ; make N [--workers K]\n"
 
 abbrev pub text_word : TextKind → List ℕ
 text_word Syntax = codes "Syntax"

@@ -1,16 +1,18 @@
 -- What a run says, and how it ends.
-use Rattle.std.specs.Prelude.{◌≡◌, ℕ, ◌^◌, ◌<◌, ◌≤◌, List, [], ◌++◌, length, Option, option_map, ◌⊎◌}
+use Rattle.std.specs.Prelude.{◌≡◌, ℕ, ◌^◌, ◌<◌, ◌≤◌, List, [], length, Option, ◌⊎◌}
 use Rattle.std.specs.Option.{ForSome}
 use Rattle.std.specs.FinMap.{empty}
 use Rattle.az_lin.specs.declared.limit.Limit.TheVariants as limit
 use Rattle.az_lin.specs.declared.limit.Limit.{Limit}
 use Rattle.az_ast.specs.System.{System}
 use Rattle.az_ast.specs.OutputRows.{AreOutputRows}
-use Rattle.az_desk.specs.Desk.{Rose, SaysSome}
+use Rattle.az_desk.specs.Desk.{Seen, SaysSome, failed, said_more}
 use Rattle.az_desk.specs.Files.{Files, content_of}
+use Rattle.az_desk.specs.declared.call.Call.TheVariants.{Read}
 use Rattle.az_ast.specs.declared.fault.ShapeKind.{ShapeKind}
 use Rattle.az_text.specs.declared.fault.LexFault.TheVariants.{BadByte as BadByteAt, WideNumber as WideNumberAt}
-use Rattle.alphabets_read.specs.Answers.{IsProgramOf, IsFaultOf}
+use Rattle.program_names.specs.ProgramOf.{IsProgramOf}
+use Rattle.alphabets_read.specs.Answers.{IsFaultOf}
 use Rattle.alphabets_read.specs.declared.fault.ReadFault.TheVariants as fault
 use Rattle.alphaz_cli.specs.declared.status.Outcome.{Outcome}
 use Rattle.alphaz_cli.specs.declared.status.Outcome.TheVariants.{Done, Usage, ReadFault, WriteFault, Text, Shape, Limited, Memory}
@@ -97,67 +99,49 @@ IsListing words files (Shape kind item) listing = TextListing words files (Shape
 IsListing words files (Limited kind) listing = LimitListing words files kind listing ⊎ TextListing words files (Limited kind) listing
 IsListing words files Memory listing = ⊥
 
--- what was said before a run, and after it; and the desk's count of faults
-pub record Change : Type 0 where
-  pub said_before : Option (List ℕ)
-  pub said_after : Option (List ℕ)
-  pub faults_before : ℕ
-  pub faults_after : ℕ
+-- a listing of this kind was said as a whole, and nothing else happened at the desk
+abbrev pub WasSaid : Seen → (List ℕ → Type 0) → Seen → Type 0
+WasSaid old IsIt new = (listing : List ℕ) × IsIt listing × (new ≡ said_more listing old)
 
-pub record SaidWhole (change : Change) (listing : List ℕ) : Type 0 where
-  pub said : change.said_after ≡ option_map (λ said. said ++ listing) change.said_before
-  pub no_fault : change.faults_after ≡ change.faults_before
-
-pub record SaidNothing (change : Change) : Type 0 where
-  pub said : change.said_after ≡ change.said_before
-  pub no_fault : change.faults_after ≡ change.faults_before
-
-abbrev pub WasSaid : Change → (List ℕ → Type 0) → Type 0
-WasSaid change IsIt = (listing : List ℕ) × IsIt listing × SaidWhole change listing
-
-pub record EndsAtRead (words : List (List ℕ)) (change : Change) (file : List ℕ) : Type 0 where
+pub record EndsAtRead (words : List (List ℕ)) (old : Seen) (file : List ℕ) (new : Seen) : Type 0 where
   pub asked : Evaluates words file
-  pub rose : Rose change.faults_before change.faults_after
-  pub said : change.said_after ≡ change.said_before
+  pub failed : new ≡ failed (Read file) old
 
-pub record EndsAtSay (words : List (List ℕ)) (files : Option Files) (change : Change) : Type 0 where
+pub record EndsAtSay (words : List (List ℕ)) (old new : Seen) : Type 0 where
   pub answer : Outcome
   pub listing : List ℕ
-  pub is_listing : IsListing words files answer listing
-  pub rose : Rose change.faults_before change.faults_after
-  pub said : SaysSome change.said_before listing change.said_after
+  pub is_listing : IsListing words old.files answer listing
+  pub failed : SaysSome listing old new
 
--- How a run ends: with its whole listing; at a fault of the desk, in a read before anything was said or
--- while the listing was said; or for want of memory, before anything was said.
-abbrev pub Ends : List (List ℕ) → Option Files → Change → Outcome → Type 0
-Ends words files change Done = WasSaid change (IsListing words files Done)
-Ends words files change Usage = WasSaid change (IsListing words files Usage)
-Ends words files change (ReadFault name) = EndsAtRead words change name
-Ends words files change WriteFault = EndsAtSay words files change
-Ends words files change (Text name kind place) = WasSaid change (IsListing words files (Text name kind place))
-Ends words files change (Shape kind item) = WasSaid change (IsListing words files (Shape kind item))
-Ends words files change (Limited kind) = WasSaid change (IsListing words files (Limited kind))
-Ends words files change Memory = SaidNothing change
+-- How a run that finds the desk as `old` ends, and what the desk shows then: with its whole listing; at a
+-- fault of the desk, in reading that very file before anything was said, or in saying the listing; or for
+-- want of memory, before anything was said.
+abbrev pub Ends : List (List ℕ) → Seen → Outcome → Seen → Type 0
+Ends words old Done new = WasSaid old (IsListing words old.files Done) new
+Ends words old Usage new = WasSaid old (IsListing words old.files Usage) new
+Ends words old (ReadFault name) new = EndsAtRead words old name new
+Ends words old WriteFault new = EndsAtSay words old new
+Ends words old (Text name kind place) new = WasSaid old (IsListing words old.files (Text name kind place)) new
+Ends words old (Shape kind item) new = WasSaid old (IsListing words old.files (Shape kind item)) new
+Ends words old (Limited kind) new = WasSaid old (IsListing words old.files (Limited kind)) new
+Ends words old Memory new = new ≡ old
 
 -- How the evaluation of a file ends.
-abbrev pub Evaluated : List ℕ → Option Files → Change → Outcome → Type 0
-Evaluated file files change answer = (words : List (List ℕ)) → Evaluates words file → Ends words files change answer
+abbrev pub Evaluated : List ℕ → Seen → Outcome → Seen → Type 0
+Evaluated file old answer new = (words : List (List ℕ)) → Evaluates words file → Ends words old answer new
 
 -- how it ends that a listing is said, where it is to end with `wanted`
-abbrev pub IsSaid : List ℕ → Outcome → Change → Outcome → Type 0
-IsSaid listing wanted change answer = (answer ≡ wanted) × SaidWhole change listing
+abbrev pub IsSaid : List ℕ → Outcome → Seen → Outcome → Seen → Type 0
+IsSaid listing wanted old answer new = (answer ≡ wanted) × (new ≡ said_more listing old)
 
-pub record IsCutShort (listing : List ℕ) (change : Change) (answer : Outcome) : Type 0 where
-  pub fault : answer ≡ WriteFault
-  pub rose : Rose change.faults_before change.faults_after
-  pub said : SaysSome change.said_before listing change.said_after
+abbrev pub IsCutShort : List ℕ → Seen → Outcome → Seen → Type 0
+IsCutShort listing old answer new = (answer ≡ WriteFault) × SaysSome listing old new
 
-pub record IsUnsaid (change : Change) (answer : Outcome) : Type 0 where
-  pub memory : answer ≡ Memory
-  pub nothing : SaidNothing change
+abbrev pub IsUnsaid : Seen → Outcome → Seen → Type 0
+IsUnsaid old answer new = (answer ≡ Memory) × (new ≡ old)
 
-abbrev pub Says : List ℕ → Outcome → Change → Outcome → Type 0
-Says listing wanted change answer = IsSaid listing wanted change answer ⊎ (IsCutShort listing change answer ⊎ IsUnsaid change answer)
+abbrev pub Says : List ℕ → Outcome → Seen → Outcome → Seen → Type 0
+Says listing wanted old answer new = IsSaid listing wanted old answer new ⊎ (IsCutShort listing old answer new ⊎ IsUnsaid old answer new)
 
 -- A file that says a program that is evaluated today is evaluated, if no fault comes.
 pub record IsRunnable (words : List (List ℕ)) (told : Files) (file : List ℕ) (program : System) : Type 0 where

@@ -1,7 +1,8 @@
 //! `eval PROGRAM`: the output rows of a program.
 
 ghost use Rattle.std.specs.Prelude.{◌≡◌, ℕ, List, IfOk, string_bytes};
-ghost use Rattle.alphabets_read.specs.Answers.{IsProgramOf, IsFaultOf};
+ghost use Rattle.program_names.specs.ProgramOf.{IsProgramOf};
+ghost use Rattle.alphabets_read.specs.Answers.{IsFaultOf};
 ghost use Rattle.alphaz_cli.specs.Lines.{text_line};
 ghost use Rattle.alphaz_cli.specs.Listing.{TextGives, Evaluated};
 ghost use Rattle.alphaz_cli.specs.declared.status.Outcome.TheVariants.{Text};
@@ -70,8 +71,7 @@ fn listing(alloc: Global, file: Name, text: &[u8]) -> Result<Said, AllocError>
 
 /// Evaluates the program in the file, and says its output rows or why there are none.
 pub(crate) fn eval<D: Desk>(alloc: Global, file: &str, desk: &mut D) -> Outcome
-    ensures ends { Evaluated file.now (D.files desk.old) (record { said_before = D.said desk.old; said_after = D.said desk.new; faults_before = D.faults desk.old; faults_after = D.faults desk.new }) result }
-    ensures files { D.files desk.new ≡ D.files desk.old }
+    ensures { Evaluated file.now (D.seen desk.old) result (D.seen desk.new) }
 {
     let Ok(name) = Name::from_str(alloc, file) else {
         return Outcome::Memory;

@@ -9,7 +9,7 @@ use az_lin::Limit;
 use std::alloc::{AllocError, Global};
 
 pub(crate) const USAGE: &str =
-    "usage: eval PROGRAM [NAME=N or NAME@FILE]... ; run SCRIPT [--workers K] ; check SCRIPT CERTIFICATE ; make N [--workers K]\n";
+    "alphaz: 2 usage: eval PROGRAM [NAME=N or NAME@FILE]... ; run SCRIPT [--workers K] ; check SCRIPT CERTIFICATE ; make N [--workers K]\n";
 
 fn text_word(kind: TextKind) -> &'static str
     ensures { result.now ≡ text_word kind }

@@ -16,8 +16,7 @@ use az_desk::Desk;
 use std::alloc::Global;
 
 fn answer_of<D: Desk>(alloc: Global, words: &[String], desk: &mut D) -> Outcome
-    ensures ends { Ends (texts words.now) (D.files desk.old) (record { said_before = D.said desk.old; said_after = D.said desk.new; faults_before = D.faults desk.old; faults_after = D.faults desk.new }) result }
-    ensures files { D.files desk.new ≡ D.files desk.old }
+    ensures { Ends (texts words.now) (D.seen desk.old) result (D.seen desk.new) }
 {
     match evaluated(words) {
         Some(file) => eval(alloc, file, desk),
@@ -28,11 +27,11 @@ fn answer_of<D: Desk>(alloc: Global, words: &[String], desk: &mut D) -> Outcome
 /// Runs the words after the program's name: reads and says at the desk, and gives the exit status.
 pub fn alphaz<D: Desk>(alloc: Global, words: &[String], desk: &mut D) -> Status
     // What was said, and why the run ended so.
-    ensures ends { Ends (texts words.now) (D.files desk.old) (record { said_before = D.said desk.old; said_after = D.said desk.new; faults_before = D.faults desk.old; faults_after = D.faults desk.new }) result.answer }
+    ensures ends { Ends (texts words.now) (D.seen desk.old) result.answer (D.seen desk.new) }
     ensures code { result.code ≡ code_of result.answer }
-    ensures files { D.files desk.new ≡ D.files desk.old }
+    ensures files { (D.seen desk.new).files ≡ (D.seen desk.old).files }
     // A program of the form is evaluated, if the desk doesn't fail and memory suffices.
-    ensures complete { (told : Files) (file : List ℕ) (program : System) → D.files desk.old ≡ Some told → IsRunnable (texts words.now) told file program → (Rose (D.faults desk.old) (D.faults desk.new) → ⊥) → IsDoneOrMemory result.answer }
+    ensures complete { (told : Files) (file : List ℕ) (program : System) → (D.seen desk.old).files ≡ Some told → IsRunnable (texts words.now) told file program → (Rose (D.seen desk.old).faults (D.seen desk.new).faults → ⊥) → IsDoneOrMemory result.answer }
 {
     let answer = answer_of(alloc, words, desk);
     Status {

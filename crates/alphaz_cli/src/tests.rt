@@ -12,7 +12,7 @@ use std::test::Fail;
 const RAMP: &str = "affine Ramp {|} output X {i | 0<=i<=3}; let X[i] = [2*i+1]; .\n";
 
 const USAGE: &str =
-    "usage: eval PROGRAM [NAME=N or NAME@FILE]... ; run SCRIPT [--workers K] ; check SCRIPT CERTIFICATE ; make N [--workers K]\n";
+    "alphaz: 2 usage: eval PROGRAM [NAME=N or NAME@FILE]... ; run SCRIPT [--workers K] ; check SCRIPT CERTIFICATE ; make N [--workers K]\n";
 
 struct Case {
     words: &'static [&'static str],
@@ -106,7 +106,7 @@ const CASES: [Case; 12] = [
         text: RAMP,
         failure: Some((0, 3)),
         code: 4,
-        said: "usa",
+        said: "alp",
     },
 ];
 

@@ -4,13 +4,14 @@ use Rattle.std.proofs.Common.{◌≡◌, ℕ, zero, suc, ◌+◌, ◌≤◌, ◌
 use Rattle.std.specs.Prelude.{ℤ, pos, slice_get, MatchOption, fold}
 use Rattle.std.specs.List.{AllZip}
 use Rattle.std.specs.FinMap.{get}
-use Rattle.az_lin.specs.Affine.{Union, HoldsSome}
+use Rattle.az_lin.specs.Affine.{Union}
 use Rattle.az_ast.specs.declared.op.Op.{Op}
 use Rattle.az_ast.specs.declared.op.Op.TheVariants.{Sub}
 use Rattle.az_ast.specs.declared.program.Role.{Role}
 use Rattle.az_ast.specs.declared.program.Role.TheVariants.{Input, Output, Local}
 use Rattle.az_ast.specs.Meaning.{Values, Reads, FoldGives, TermGives, ChoiceGives, RoleGives, ReadGives, body_of, ValueBelow, ValueTo, ReadTo, Means}
 use Rattle.az_ast.specs.Operators.{applied, identity}
+use Rattle.az_ast.specs.Points.{IsPointOf}
 use Rattle.az_ast.specs.System.{System}
 use Rattle.az_ast.specs.Tables.{Tables, TableGives, InputGives}
 use Rattle.az_ast.specs.Term.{Term, constant, index, access, negation, binary, cases, reduction, Choices, none, choice}
@@ -142,7 +143,7 @@ module _ (p : System) (tables : Tables) where
       ReadGives p tables bodies x params k v → ReadGives p tables bodies x params k w → v ≡ w
   ReadGives-unique bodies one x params k v w g h =
       MatchOption-unique
-      (λ variable u. HoldsSome variable.domain (params ++ k) × RoleGives variable.role (InputGives tables x k u) (MatchOption (body_of p.equations x) ⊥ (λ body. bodies body (params ++ k) u)))
+      (λ variable u. IsPointOf (length p.params) variable.domain params k × RoleGives variable.role (InputGives tables x k u) (MatchOption (body_of p.equations x) ⊥ (λ body. bodies body (params ++ k) u)))
       (slice_get p.variables x) v w
       (λ variable a b. RoleGives-unique variable.role _ _ _ _ v w
       (λ i j. MatchOption-unique (λ rows u. TableGives rows k u) (get tables x) v w (λ rows r s. TableGives-unique rows k v w r s) i j)

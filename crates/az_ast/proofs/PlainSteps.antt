@@ -12,11 +12,11 @@ use Rattle.az_ast.specs.declared.expr.Branch.{Branch}
 use Rattle.az_ast.specs.declared.program.Equation.{Equation}
 use Rattle.az_ast.specs.declared.plain.Found.{Found}
 use Rattle.az_ast.specs.declared.plain.Found.TheVariants as found
-use Rattle.az_ast.specs.Chosen.{FoundIs, found_map, NoneBefore, LeadsToBody}
+use Rattle.az_ast.specs.Inner.Chosen.{found_map, NoneBefore, LeadsToBody}
 use Rattle.az_ast.specs.Meaning.{equation_of, ValueTo, ReadTo}
 use Rattle.az_ast.specs.Nodes.{nodes, nodes_below}
 use Rattle.az_ast.specs.Operators.{wrapped, applied}
-use Rattle.az_ast.specs.Plain.{IsUnreadable, StopsTo, ReadStopsTo}
+use Rattle.az_ast.specs.Plain.{FoundIs, IsUnreadable, StopsTo, ReadStopsTo}
 use Rattle.az_ast.specs.System.{System}
 use Rattle.az_ast.specs.Tables.{Tables}
 use Rattle.az_ast.specs.Term.{Term, access, choices, term}
@@ -94,7 +94,7 @@ module _ (p : System) (tables : Tables) (depth : ℕ) (z : List ℤ) where
         by found.Stopped h = inr h
 
     -- the read leads to a body
-    module _ (body : Expr) (leads : LeadsToBody p x (take count point ++ drop count point) body) where
+    module _ (body : Expr) (leads : LeadsToBody p x (take count point) (drop count point) body) where
       pub body-step : (f : Found) → 0 < depth → FoundIs (λ v. ValueTo p tables (depth - 1) (term body) point v) (StopsTo p (depth - 1) (term body) point) f → Target e f
       body-step f d h =
           let next : suc (depth - 1) ≡ depth = omega arith in

@@ -35,18 +35,18 @@ both_none : {A : Type 0} (a b : Option A) → option_or a b ≡ None → (a ≡ 
 both_none None b e = (refl, e)
 both_none (Some x) b e = cc
 
-mapped_none : {A B : Type 0} (f : A → B) (a : Option A) → option_map f a ≡ None → a ≡ None
+pub mapped_none : {A B : Type 0} (f : A → B) (a : Option A) → option_map f a ≡ None → a ≡ None
 mapped_none f None e = refl
 mapped_none f (Some x) e = cc
 
-all_none : (n : ℕ) (kinds : List (Option ShapeKind)) → first_kind n kinds ≡ None → AllByRecursion (λ k. k ≡ None) kinds
+pub all_none : (n : ℕ) (kinds : List (Option ShapeKind)) → first_kind n kinds ≡ None → AllByRecursion (λ k. k ≡ None) kinds
 all_none n [] e = tt
 all_none n (kind ∷ kinds) e =
     let b = both_none (option_map (λ k. Shape k n) kind) (first_kind (suc n) kinds) e in
     (mapped_none (λ k. Shape k n) kind b.0, all_none (suc n) kinds b.1)
 
 -- what each item without a fault meets
-each_item :
+pub each_item :
     {A : Type 0} (kind : List A → A → Option ShapeKind) (P : A → Type 0) → ((earlier : List A) (x : A) → kind earlier x ≡ None → P x) →
     (earlier xs : List A) → AllByRecursion (λ k. k ≡ None) (kinds_after kind earlier xs) → AllByRecursion P xs
 each_item kind P h earlier [] n = tt
@@ -102,8 +102,8 @@ module _ (p : System) (program : IsProgram p) where
   abbrev missing : Option ShapeFault
   missing = first_kind 1 (missing_kinds p.equations 0 p.variables)
 
-  none : (limit_of p ≡ None) × (header ≡ None) × (declared ≡ None) × (defined ≡ None) × (missing ≡ None)
-  none =
+  pub no_faults : (limit_of p ≡ None) × (header ≡ None) × (declared ≡ None) × (defined ≡ None) × (missing ≡ None)
+  no_faults =
       let both = both_none (limit_of p) (shape_of p) program.accepted in
       let first = both_none header (option_or declared (option_or defined missing)) (sym (shape_parts p) ∙ both.1) in
       let second = both_none declared (option_or defined missing) first.1 in
@@ -111,7 +111,7 @@ module _ (p : System) (program : IsProgram p) where
       (both.0, first.0, second.0, third.0, third.1)
 
   each_equation : (P : Equation → Type 0) → ((earlier : List Equation) (e : Equation) → equation_kind (length p.params) p.variables earlier e ≡ None → P e) → AllByRecursion P p.equations
-  each_equation P h = each_item (equation_kind (length p.params) p.variables) P h [] p.equations (all_none (1 + length p.variables) (kinds_after (equation_kind (length p.params) p.variables) [] p.equations) none.3)
+  each_equation P h = each_item (equation_kind (length p.params) p.variables) P h [] p.equations (all_none (1 + length p.variables) (kinds_after (equation_kind (length p.params) p.variables) [] p.equations) no_faults.3)
 
   of_no_input : AllByRecursion (λ (e : Equation). of_variable p.variables (λ v. is_input v.role) e.variable ≡ false) p.equations
   of_no_input =
@@ -126,7 +126,7 @@ module _ (p : System) (program : IsProgram p) where
       by true i = ap is_none (found_none p.variables p.equations x of_no_input (ap (λ o. option_map_or (λ (w : Variable). is_input w.role) o false) e ∙ i))
       by false i =
           let at : 0 + x ≡ x = omega arith in
-          let lacks : lacks_equation p.equations x v ≡ false = subst (λ n. lacks_equation p.equations n v ≡ false) at (none_missing p.equations 0 p.variables (all_none 1 (missing_kinds p.equations 0 p.variables) none.4) x v e) in
+          let lacks : lacks_equation p.equations x v ≡ false = subst (λ n. lacks_equation p.equations n v ≡ false) at (none_missing p.equations 0 p.variables (all_none 1 (missing_kinds p.equations 0 p.variables) no_faults.4) x v e) in
           found_some p.equations x (not-false (list_any (λ (q : Equation). q.variable == x) p.equations)
           (subst (λ b. (not b && not (list_any (λ (q : Equation). q.variable == x) p.equations)) ≡ false) i lacks))
 
@@ -151,7 +151,7 @@ no_more most size xs e =
 -- the limits
 module _ (p : System) (program : IsProgram p) where
   within_limits : AllByRecursion (λ row. row.0 ≡ false) (limits p)
-  within_limits = none_holds (limits p) (none p program).0
+  within_limits = none_holds (limits p) (no_faults p program).0
 
   pub few_parts : (length p.variables ≤ 256) × (length p.params ≤ 8)
   few_parts =

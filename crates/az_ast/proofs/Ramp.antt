@@ -110,7 +110,7 @@ module _ (name x : List ℕ) (low high a b : ℤ) (tables : Tables) where
   program = ramp name x low high a b
 
   pub ramp-means : (i : ℤ) → low ≤ℤ i → i ≤ℤ high → Means program tables [] 0 (i ∷ []) (wrapped ((a *ℤ i) +ℤ b))
-  ramp-means i l h = (1, (holds-interval low high i l h, rw (term-Index (record { coefs = a ∷ []; konst = b })) (ap wrapped (value_of a b i))))
+  ramp-means i l h = (1, (record { parameters = refl; member = (refl, holds-interval low high i l h) }, rw (term-Index (record { coefs = a ∷ []; konst = b })) (ap wrapped (value_of a b i))))
 
   rows_at : (i : ℤ) (count : ℕ) → low ≤ℤ i → i +ℤ pos count ≡ high +ℤ pos 1 → ArePointRows program tables [] 0 x (points_from i count) (ramp_lines x a b i count)
   rows_at i zero l e = refl

@@ -2,13 +2,13 @@
 use Rattle.std.proofs.Common.{◌≡◌, ℕ, List, ◌++◌, length, Some, None, Option, sym, ap, subst, inl, inr}
 use Rattle.std.specs.Prelude.{ℤ, slice_get, MatchOption, ◌⊎◌, option_map}
 use Rattle.az_ast.specs.declared.program.Equation.{Equation}
-use Rattle.az_lin.specs.Affine.{HoldsSome}
 use Rattle.az_ast.specs.declared.program.Variable.{Variable}
 use Rattle.az_ast.specs.declared.program.Role.{Role}
 use Rattle.az_ast.specs.declared.program.Role.TheVariants.{Input, Output, Local}
-use Rattle.az_ast.specs.Chosen.{IsInput}
+use Rattle.az_ast.specs.Inner.Chosen.{IsInput}
 use Rattle.az_ast.specs.Meaning.{Values, RoleGives, ReadGives, equation_of, body_of}
 use Rattle.az_ast.specs.Plain.{IsUnreadable, ReadStops}
+use Rattle.az_ast.specs.Points.{IsPointOf}
 use Rattle.az_ast.specs.System.{System}
 use Rattle.az_ast.specs.Tables.{Tables, InputGives}
 use Rattle.az_ast.specs.Term.{Term, term}
@@ -47,7 +47,7 @@ RoleGives-from_body Local A B i h = h
 module _ (p : System) (tables : Tables) (x : ℕ) (variable : Variable) (declared : slice_get p.variables x ≡ Some variable) (params k : List ℤ) where
   abbrev Gives : (Term → Values) → ℤ → Variable → Type 0
   Gives bodies v variable =
-      HoldsSome variable.domain (params ++ k) ×
+      IsPointOf (length p.params) variable.domain params k ×
       RoleGives variable.role (InputGives tables x k v) (MatchOption (body_of p.equations x) ⊥ (λ body. bodies body (params ++ k) v))
 
   abbrev Stops : (Term → List ℤ → Type 0) → Variable → Type 0
@@ -66,7 +66,7 @@ module _ (p : System) (tables : Tables) (x : ℕ) (variable : Variable) (declare
   pub unreadable-stops : (bodies : Term → List ℤ → Type 0) → IsUnreadable (length p.params) variable.domain.width (params ++ k) → ReadStops p bodies x params k
   unreadable-stops bodies u = at-MatchOption (Stops bodies) (slice_get p.variables x) variable declared (inl u)
 
-  pub input-gives : (bodies : Term → Values) (v : ℤ) → IsInput variable.role → HoldsSome variable.domain (params ++ k) → InputGives tables x k v → ReadGives p tables bodies x params k v
+  pub input-gives : (bodies : Term → Values) (v : ℤ) → IsInput variable.role → IsPointOf (length p.params) variable.domain params k → InputGives tables x k v → ReadGives p tables bodies x params k v
   input-gives bodies v i h g = parts-read bodies v (h, RoleGives-from_input variable.role _ _ i g)
 
   pub gives-input : (bodies : Term → Values) (v : ℤ) → IsInput variable.role → ReadGives p tables bodies x params k v → InputGives tables x k v
@@ -77,7 +77,7 @@ module _ (p : System) (tables : Tables) (x : ℕ) (variable : Variable) (declare
       MatchOption-none (λ body. bodies body (params ++ k) v) (body_of p.equations x) (ap (option_map (λ equation. term equation.body)) e) (RoleGives-body variable.role _ _ i (read-parts bodies v g).1)
 
   module _ (equation : Equation) (no_input : IsInput variable.role → ⊥) (found : equation_of p.equations x ≡ Some equation) where
-    pub body-gives : (bodies : Term → Values) (v : ℤ) → HoldsSome variable.domain (params ++ k) → bodies (term equation.body) (params ++ k) v → ReadGives p tables bodies x params k v
+    pub body-gives : (bodies : Term → Values) (v : ℤ) → IsPointOf (length p.params) variable.domain params k → bodies (term equation.body) (params ++ k) v → ReadGives p tables bodies x params k v
     body-gives bodies v h g =
         parts-read bodies v (h, RoleGives-from_body variable.role _ _ no_input (at-MatchOption (λ body. bodies body (params ++ k) v) (body_of p.equations x) (term equation.body) (body_is equation found) g))
 

@@ -1,11 +1,11 @@
 -- Tables as a binary search sees them.
-use Rattle.std.proofs.Common.{◌≡◌, ℕ, zero, suc, ◌<◌, ◌≤◌, List, [], ◌∷◌, length, refl, sym, subst, ◌∙◌, arith, inl, inr, ⊎_elim}
+use Rattle.std.proofs.Common.{◌≡◌, ℕ, zero, suc, ◌<◌, ◌≤◌, List, [], ◌∷◌, ◌++◌, length, refl, sym, subst, ◌∙◌, arith, inl, inr, ⊎_elim}
 use Rattle.std.specs.Prelude.{ℤ, slice_index_or, map}
 use Rattle.std.specs.List.{AllByRecursion}
 use Rattle.std.specs.List.Sorted.{IsNonDecreasingBy, IsPartitionPoint}
 use Rattle.std.specs.declared.cmp.Ordering.{Ordering}
 use Rattle.std.specs.declared.cmp.Ordering.TheVariants.{Less, Equal, Greater}
-use Rattle.std.specs.Ordering.{int_cmp, ordering_index, ordering_reverse}
+use Rattle.std.specs.Ordering.{int_cmp, ordering_index, ordering_reverse, ordering_then}
 use Rattle.std.specs.Cmp.{IsTotalOrder, int_cmp_total}
 use Rattle.std.specs.Cmp.Lexicographic.{slice_cmp, lists_total}
 use Rattle.std.specs.FinMap.{int_cmp-IsAntisymmetric, slice_cmp-IsAntisymmetric}
@@ -30,6 +30,16 @@ equal_points a b e = subst (λ p. slice_cmp int_cmp a p ≡ Equal) e (itself (sl
 
 pub Precedes-differs : (a b : List ℤ) → Precedes a b → a ≡ b → ⊥
 Precedes-differs a b l e = let q = equal_points a b e in cc
+
+-- behind the same coordinates points compare as before
+pub compared-append : (z a b : List ℤ) → slice_cmp int_cmp (z ++ a) (z ++ b) ≡ slice_cmp int_cmp a b
+compared-append [] a b = refl
+compared-append (c ∷ z) a b =
+    let same : int_cmp c c ≡ Equal = itself (int_cmp c c) (int_cmp_total.antisymm c c) in
+    subst (λ r. ordering_then r (slice_cmp int_cmp (z ++ a) (z ++ b)) ≡ slice_cmp int_cmp a b) (sym same) (compared-append z a b)
+
+pub Precedes-append : (z a b : List ℤ) → Precedes a b → Precedes (z ++ a) (z ++ b)
+Precedes-append z a b h = compared-append z a b ∙ h
 
 later-precedes : (p : List ℤ) (rows : Rows) (k : ℕ) (d : List ℤ × ℤ) → AllByRecursion (Precedes p) (map (λ row. row.0) rows) → k < length rows → Precedes p (slice_index_or rows k d).0
 later-precedes p [] k d a h = absurd (omega arith)

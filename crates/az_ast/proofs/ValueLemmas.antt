@@ -8,10 +8,10 @@ use Rattle.az_ast.specs.declared.expr.Expr.{Expr}
 use Rattle.az_ast.specs.declared.expr.Branch.{Branch}
 use Rattle.az_ast.specs.declared.plain.Found.{Found}
 use Rattle.az_ast.specs.declared.plain.Found.TheVariants as found
-use Rattle.az_ast.specs.Chosen.{FoundIs, found_map, NoneBefore, LeadsToBody}
+use Rattle.az_ast.specs.Inner.Chosen.{found_map, NoneBefore, LeadsToBody}
 use Rattle.az_ast.specs.Meaning.{Reads, TermGives, ChoiceGives, ValueBelow, ValueTo, ReadTo}
 use Rattle.az_ast.specs.Operators.{applied}
-use Rattle.az_ast.specs.Plain.{IsUnreadable, ReadsStop, TermStops, ChoiceStops, StopsBelow, StopsTo, ReadStopsTo}
+use Rattle.az_ast.specs.Plain.{FoundIs, IsUnreadable, ReadsStop, TermStops, ChoiceStops, StopsBelow, StopsTo, ReadStopsTo}
 use Rattle.az_ast.specs.System.{System}
 use Rattle.az_ast.specs.Tables.{Tables}
 use Rattle.az_ast.specs.Term.{Term, negation, binary, cases, choices, term}
@@ -84,7 +84,7 @@ module _ (params : ℕ) (reads : Reads) (stops : ReadsStop) where
   found-cases branches z place branch e h n found.Nothing g = λ v c. g v (cases-gives branches z place branch e h n v c)
   found-cases branches z place branch e h n found.Stopped g = stops-cases branches z place branch e (inr g)
 
-module _ (p : System) (tables : Tables) (x : ℕ) (params k : List ℤ) (e : Expr) (leads : LeadsToBody p x (params ++ k) e) where
+module _ (p : System) (tables : Tables) (x : ℕ) (params k : List ℤ) (e : Expr) (leads : LeadsToBody p x params k e) where
   body_term : term e ≡ term leads.equation.body
   body_term = ap term leads.body
 

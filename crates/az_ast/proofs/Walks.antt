@@ -35,7 +35,7 @@ domains-below test [] = refl
 domains-below test (b ∷ branches) = ap (λ rest. test b.domain || rest) (domains-below test branches)
 
 module _ (branches : List Branch) (k : ℕ) (b : Branch) (within : k < length branches) (here : b ≡ slice_index_or branches k b) where
-  opened : drop k branches ≡ b ∷ drop (suc k) branches
+  pub opened : drop k branches ≡ b ∷ drop (suc k) branches
   opened = drop-cons branches k b within ∙ ap (λ x. x ∷ drop (suc k) branches) (sym here)
 
   -- the branch that comes next is one of those that are left

@@ -1,7 +1,8 @@
 pub mod Accesses
 pub mod Certified
-pub mod Chosen
+pub mod Dependences
 pub mod FirstForm
+pub mod Inner
 pub mod Meaning
 pub mod Nodes
 pub mod Operators
@@ -9,10 +10,10 @@ pub mod OutputRows
 pub mod Placed
 pub mod Plain
 pub mod Points
+pub mod Rows
 pub mod Shapes
 pub mod System
 pub mod Tables
 pub mod Term
-pub mod TestParts
 pub mod Walks
 pub mod Writable

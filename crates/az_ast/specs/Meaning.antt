@@ -17,7 +17,7 @@ use Rattle.az_ast.specs.declared.program.Role.{Role}
 use Rattle.az_ast.specs.declared.program.Role.TheVariants.{Input, Output, Local}
 use Rattle.az_ast.specs.declared.program.Equation.{Equation}
 use Rattle.az_ast.specs.Operators.{wrapped, applied, identity}
-use Rattle.az_ast.specs.Points.{AreMembers}
+use Rattle.az_ast.specs.Points.{AreMembers, IsPointOf}
 use Rattle.az_ast.specs.System.{System}
 use Rattle.az_ast.specs.Tables.{Tables, InputGives}
 use Rattle.az_ast.specs.Term.{Term, constant, index, access, negation, binary, cases, reduction, Choices, none, choice, term}
@@ -62,7 +62,7 @@ equation_of equations x = find (λ equation. equation.variable == x) equations
 abbrev pub body_of : List Equation → ℕ → Option Term
 body_of equations x = option_map (λ equation. term equation.body) (equation_of equations x)
 
--- what a read has, if bodies have the given values: nothing outside the variable's domain, for an input
+-- what a read has, if bodies have the given values: nothing but at a point of the variable, for an input
 -- the value of its table, and for an output or local the value of its equation's body
 abbrev pub RoleGives : Role → Type 0 → Type 0 → Type 0
 RoleGives Input table body = table
@@ -72,7 +72,7 @@ RoleGives Local table body = body
 abbrev pub ReadGives : System → Tables → (Term → Values) → Reads
 ReadGives p tables bodies x params k v =
     MatchOption (slice_get p.variables x) ⊥ (λ variable.
-    HoldsSome variable.domain (params ++ k) ×
+    IsPointOf (length p.params) variable.domain params k ×
     RoleGives variable.role (InputGives tables x k v) (MatchOption (body_of p.equations x) ⊥ (λ body. bodies body (params ++ k) v)))
 
 -- the value of an expression with fewer than so many equations unfolded, itself counted as one: none

@@ -1,7 +1,9 @@
--- Where the plain evaluation stops without an answer: it computes rows only at points of the row's
+-- What the plain evaluation answers, and where it stops without an answer: it computes rows only at points of the row's
 -- width, of at most 64 coordinates within ±(2^40 - 1), and it looks for no points of a reduction.
 use Rattle.std.specs.Prelude.{◌≡◌, ℕ, zero, suc, ◌≤◌, ℤ, List, ◌++◌, length, take, All, ◌⊎◌, slice_get, MatchOption}
 use Rattle.az_lin.specs.Affine.{IsCoordinate, image_of}
+use Rattle.az_ast.specs.declared.plain.Found.{Found}
+use Rattle.az_ast.specs.declared.plain.Found.TheVariants as found
 use Rattle.az_ast.specs.Meaning.{body_of, RoleGives}
 use Rattle.az_ast.specs.System.{System}
 use Rattle.az_ast.specs.Term.{Term, constant, index, access, negation, binary, cases, reduction, Choices, none, choice}
@@ -48,3 +50,9 @@ ReadStopsTo p depth = ReadStops p (StopsBelow p depth)
 
 abbrev pub StopsTo : System → ℕ → Term → List ℤ → Type 0
 StopsTo p depth = TermStops (length p.params) (ReadStopsTo p depth)
+
+-- the value where there is one, none where there is none, or the cause of a stop
+abbrev pub FoundIs : (ℤ → Type 0) → Type 0 → Found → Type 0
+FoundIs gives stops (found.Value v) = gives v
+FoundIs gives stops found.Nothing = (v : ℤ) → gives v → ⊥
+FoundIs gives stops found.Stopped = stops

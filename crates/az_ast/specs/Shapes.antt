@@ -22,6 +22,7 @@ use Rattle.az_ast.specs.declared.program.Role.TheVariants.{Input, Output, Local}
 use Rattle.az_ast.specs.declared.program.Variable.{Variable}
 use Rattle.az_ast.specs.Nodes.{nodes}
 use Rattle.az_ast.specs.Placed.{IsPlaced, IsConjunction}
+use Rattle.az_ast.specs.Rows.{HasRows}
 use Rattle.az_ast.specs.System.{System}
 use Rattle.az_ast.specs.Term.{Term, constant, index, access, negation, binary, cases, reduction, term}
 use Rattle.az_ast.specs.Walks.{parts, domains, extra_under}
@@ -165,9 +166,10 @@ shape_of p = option_or (first_kind 0 (item_kinds p)) (first_kind 1 (missing_kind
 abbrev pub refusal_of : System → Option ShapeFault
 refusal_of p = option_or (limit_of p) (shape_of p)
 
--- a program: parts that are placed, and not refused
+-- a program: parts that are placed, with rows of their place's width, and not refused
 pub record IsProgram (p : System) : Type 0 where
   pub placed : IsPlaced p
+  pub rows : HasRows p
   pub accepted : refusal_of p ≡ None
 
 -- every domain in it has one disjunct

@@ -4,7 +4,9 @@ ghost use Rattle.std.specs.Prelude.{◌≡◌, IfOk, IfErr};
 ghost use Rattle.az_ast.specs.declared.fault.ShapeFault.TheVariants.{Memory};
 ghost use Rattle.az_ast.specs.Certified.{IsCertified};
 
+use crate::copy::copied;
 use crate::{Program, ShapeFault};
+use az_lin::{LinFault, TryCopy};
 use std::alloc::Global;
 use std::marker::Model;
 
@@ -29,6 +31,13 @@ impl Model for Checked {
     ghost invariant = { λ checked. IsCertified checked.program };
 }
 
+impl TryCopy for Checked {
+    fn copy(&self, alloc: Global) -> Result<Self, LinFault> {
+        let program = TryCopy::copy(&self.program, alloc)?;
+        Ok(Checked { program })
+    }
+}
+
 impl Checked {
     pub fn new(program: Program) -> Checked
         requires { IsCertified program }
@@ -42,8 +51,7 @@ impl Checked {
         ensures ok { IfOk result (λ copied. copied ≡ self.now) }
         ensures cause { IfErr result (λ fault. fault ≡ Memory) }
     {
-        let program = self.program.copy(alloc)?;
-        Ok(Checked { program })
+        copied(alloc, self)
     }
 
     pub fn program(&self) -> &Program

@@ -55,6 +55,14 @@ pub(crate) fn copy_of(alloc: Global, e: &Expr) -> Result<Expr, LinFault>
     }
 }
 
+impl TryCopy for Branch {
+    fn copy(&self, alloc: Global) -> Result<Self, LinFault> {
+        let domain = self.domain.copy(alloc)?;
+        let body = copy_of(alloc, &self.body)?;
+        Ok(Branch { domain, body })
+    }
+}
+
 impl TryCopy for Expr {
     fn copy(&self, alloc: Global) -> Result<Self, LinFault> {
         copy_of(alloc, self)

@@ -3,13 +3,15 @@
 ghost use Rattle.std.specs.Prelude.{◌≡◌, ◌<◌, ◌≤◌, length, All};
 ghost use Rattle.std.specs.List.{list_any};
 ghost use Rattle.az_ast.specs.Placed.{IsPlaced};
+ghost use Rattle.az_ast.specs.Rows.{HasRows};
 ghost use Rattle.az_ast.specs.Shapes.{all_domains, has_many_names, has_many_columns, has_many_nodes, limit_of, shape_of, refusal_of};
 ghost use Rattle.az_ast.specs.Walks.{is_outside};
 
 use crate::items::{declaration_fault, equation_fault, missing_fault};
 use crate::limits::{has_many_indices, has_many_nodes, some_outside, some_under_many};
-use crate::part_tests::OutsideBounds;
+use crate::rows::{domain_rows, equation_rows, variable_rows};
 use crate::shape::header_kind;
+use crate::sought_parts::OutsideBounds;
 use crate::{Equation, ShapeFault, Variable};
 use az_lin::{Domain, Limit, LinFault, List, Name, TryCopy};
 use std::alloc::Global;
@@ -125,6 +127,17 @@ impl Draft {
             return Some(fault);
         }
         missing_fault(variables, equations)
+    }
+
+    /// Each row has its place's width.
+    pub fn rows(&self)
+        requires { IsPlaced self.now }
+        ensures { HasRows self.now }
+    {
+        let variables = self.variables.as_slice();
+        domain_rows(&self.pdom);
+        variable_rows(variables);
+        equation_rows(variables, self.equations.as_slice());
     }
 
     /// Why the parts are no program.

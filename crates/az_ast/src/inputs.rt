@@ -157,4 +157,13 @@ impl Values {
     {
         self.tables.table(variable)
     }
+
+    /// Equal tables in memory of their own.
+    pub fn copy(&self, alloc: Global) -> Result<Values, ShapeFault>
+        ensures ok { IfOk result (λ copied. copied ≡ self.now) }
+        ensures cause { IfErr result (λ fault. fault ≡ Memory) }
+    {
+        let tables = self.tables.copy(alloc)?;
+        Ok(Values { tables })
+    }
 }

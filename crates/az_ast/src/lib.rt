@@ -5,29 +5,22 @@
 
 mod checked;
 mod copy;
-#[cfg(test)]
-mod copy_tests;
 mod draft;
 mod expr;
 mod fault;
 mod index_name;
 mod inputs;
 mod items;
-#[cfg(test)]
-mod limit_tests;
 mod limits;
 mod op;
-mod part_tests;
 mod plain;
 mod point;
 mod program;
 mod reason;
+mod rows;
 mod shape;
-#[cfg(test)]
-mod shape_tests;
+mod sought_parts;
 mod table;
-#[cfg(test)]
-mod tests;
 mod walk;
 
 pub use checked::Checked;

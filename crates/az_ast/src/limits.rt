@@ -7,7 +7,7 @@ ghost use Rattle.az_ast.specs.Shapes.{indices, stands_under_many};
 ghost use Rattle.az_ast.specs.Term.{term};
 ghost use Rattle.az_ast.specs.Walks.{domains, is_outside};
 
-use crate::part_tests::OutsideBounds;
+use crate::sought_parts::OutsideBounds;
 use crate::walk::{is_under, nodes_left, some_part};
 use crate::{Equation, Variable};
 use az_lin::Domain;
@@ -19,18 +19,12 @@ const MOST_COLUMNS: usize = 16;
 
 const MOST_NODES: u32 = 512;
 
-pub(crate) fn indices(params: usize, variable: &Variable) -> usize
-    ensures { result ≡ indices params variable.now }
-{
-    variable.domain.width().saturating_sub(params)
-}
-
 pub(crate) fn has_many_indices(params: usize, variables: &[Variable]) -> bool
     ensures { result ≡ list_any (λ variable. nat_lt 8 (indices params variable)) variables.now }
 {
     variables
         .iter()
-        .any(|variable| MOST_INDICES < indices(params, variable))
+        .any(|variable| MOST_INDICES < variable.indices(params))
 }
 
 fn stands_under_many(params: usize, variables: &[Variable], equation: &Equation) -> bool
@@ -39,7 +33,7 @@ fn stands_under_many(params: usize, variables: &[Variable], equation: &Equation)
     let Some(variable) = variables.get(equation.variable as usize) else {
         return false;
     };
-    match MOST_COLUMNS.checked_sub(indices(params, variable)) {
+    match MOST_COLUMNS.checked_sub(variable.indices(params)) {
         Some(room) => !is_under(&equation.body, room as u32),
         None => true,
     }

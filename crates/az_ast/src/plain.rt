@@ -3,16 +3,16 @@
 
 ghost use Rattle.std.specs.Prelude.{◌≡◌, ◌≤◌, ℕ, ℤ, length, All, IsTrue, ◌↔◌, ◌++◌, take, drop, IfOk, IfErr, Contains, slice_get, map};
 ghost use Rattle.std.specs.Option.{option_copied};
-ghost use Rattle.az_ast.specs.Chosen.{ChosenIs, FoundIs, ReadIs, found_map};
+ghost use Rattle.az_ast.specs.Inner.Chosen.{ChosenIs, ReadIs, found_map};
 ghost use Rattle.az_ast.specs.Operators.{wrapped, applied};
 ghost use Rattle.az_lin.specs.Affine.{value_at};
 ghost use Rattle.az_ast.specs.Meaning.{ValueTo};
-ghost use Rattle.az_ast.specs.Plain.{IsReadable, IsUnreadable, StopsTo};
+ghost use Rattle.az_ast.specs.Plain.{FoundIs, IsReadable, IsUnreadable, StopsTo};
 ghost use Rattle.az_ast.specs.Tables.{InputGives};
 ghost use Rattle.az_ast.specs.Term.{term};
 ghost use Rattle.az_ast.specs.declared.fault.ShapeFault.TheVariants.{Memory};
 
-use crate::point::{holds, is_readable, point_read};
+use crate::point::{is_readable, point_read};
 use crate::program::equation_of;
 use crate::{
     Branch, Equation, Expr, Inputs, Op, Program, Role, ShapeFault, Variable, apply_op, wrap,
@@ -61,7 +61,7 @@ fn first_holding<'a>(params: usize, branches: &'a [Branch], z: &[i128]) -> Chose
         if !is_readable(params, branch.domain.width(), z) {
             return Chosen::Stopped;
         }
-        if holds(&branch.domain, z) {
+        if branch.domain.holds(z) {
             return Chosen::At(branch);
         }
     }
@@ -98,7 +98,7 @@ fn resolve<'a>(program: &'a Program, inputs: &Inputs, x: u32, point: &[i128]) ->
     if !is_readable(params, variable.domain.width(), point) {
         return Read::Answer(Found::Stopped);
     }
-    if !holds(&variable.domain, point) {
+    if !variable.domain.holds(point) {
         return Read::Answer(Found::Nothing);
     }
     if variable.role == Role::Input {

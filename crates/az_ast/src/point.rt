@@ -1,12 +1,12 @@
 //! The tests and numbers of one point, as the definitions have them.
 
 ghost use Rattle.std.specs.Prelude.{◌≡◌, ◌≤◌, length, All, IsTrue, ◌↔◌, ◌++◌, take, IfOk, IfErr};
-ghost use Rattle.az_lin.specs.Affine.{IsCoordinate, Holds, HoldsSome, image_of};
+ghost use Rattle.az_lin.specs.Affine.{IsCoordinate, image_of};
 ghost use Rattle.az_ast.specs.Plain.{IsReadable};
 ghost use Rattle.az_ast.specs.declared.fault.ShapeFault.TheVariants.{Memory};
 
 use crate::ShapeFault;
-use az_lin::{Conj, Domain, Map};
+use az_lin::Map;
 use std::alloc::Global;
 
 /// The greatest magnitude of a coordinate at which rows are computed.
@@ -23,24 +23,6 @@ pub fn is_readable(params: usize, width: usize, z: &[i128]) -> bool
     ensures { IsTrue result ↔ IsReadable params width z.now }
 {
     z.len() == width && params <= width && width <= 64 && z.iter().all(|c| is_coordinate(*c))
-}
-
-fn holds_all(conj: &Conj, z: &[i128]) -> bool
-    requires width { length z.now ≡ conj.now.width }
-    requires narrow { length z.now ≤ 64 }
-    requires small { All IsCoordinate z.now }
-    ensures { IsTrue result ↔ Holds conj.now z.now }
-{
-    conj.rows().iter().all(|row| row.value(z) >= 0)
-}
-
-pub fn holds(domain: &Domain, z: &[i128]) -> bool
-    requires width { length z.now ≡ domain.now.width }
-    requires narrow { length z.now ≤ 64 }
-    requires small { All IsCoordinate z.now }
-    ensures { IsTrue result ↔ HoldsSome domain.now z.now }
-{
-    domain.disjuncts().iter().any(|conj| holds_all(conj, z))
 }
 
 /// The point that an access reads: the parameters of `z`, and the map's image of it.

@@ -6,11 +6,11 @@ ghost use Rattle.std.specs.Option.{option_copied};
 ghost use Rattle.az_ast.specs.declared.fault.ShapeFault.TheVariants.{Memory};
 ghost use Rattle.az_ast.specs.Meaning.{equation_of};
 ghost use Rattle.az_ast.specs.Placed.{IsPlaced};
-ghost use Rattle.az_ast.specs.Shapes.{refusal_of, IsProgram, IsPlain, of_variable, is_input};
+ghost use Rattle.az_ast.specs.Shapes.{refusal_of, IsProgram, IsPlain, indices, of_variable, is_input};
 
 use crate::copy::{copied, copy_of};
 use crate::draft::Draft;
-use crate::part_tests::OutsideBounds;
+use crate::sought_parts::OutsideBounds;
 use crate::{Expr, ShapeFault};
 use az_lin::{Domain, LinFault, List, Name, TryCopy};
 use std::alloc::Global;
@@ -30,6 +30,15 @@ pub struct Variable {
     pub name: Name,
     pub role: Role,
     pub domain: Domain,
+}
+
+impl Variable {
+    /// How many indices it has, in a program of so many parameters.
+    pub fn indices(&self, params: usize) -> usize
+        ensures { result ≡ indices params self.now }
+    {
+        self.domain.width().saturating_sub(params)
+    }
 }
 
 /// The equation of the variable with this number.
@@ -58,6 +67,13 @@ impl TryCopy for Equation {
             variable: self.variable,
             body,
         })
+    }
+}
+
+impl TryCopy for Program {
+    fn copy(&self, alloc: Global) -> Result<Self, LinFault> {
+        let draft = self.draft.copy(alloc)?;
+        Ok(Program { draft })
     }
 }
 
@@ -100,6 +116,7 @@ impl Program {
     ) -> Result<Program, ShapeFault>
         requires { IsPlaced (record { name = name; params = params; pdom = pdom; variables = variables; equations = equations }) }
         ensures ok { IfOk result (λ p. (p ≡ record { name = name; params = params; pdom = pdom; variables = variables; equations = equations }) × (refusal_of p ≡ None)) }
+        ensures rules { IfOk result IsProgram }
         ensures cause { IfErr result (λ fault. refusal_of (record { name = name; params = params; pdom = pdom; variables = variables; equations = equations }) ≡ Some fault) }
     {
         let draft = Draft {
@@ -111,7 +128,10 @@ impl Program {
         };
         match draft.refusal() {
             Some(fault) => Err(fault),
-            None => Ok(Program { draft }),
+            None => {
+                draft.rows();
+                Ok(Program { draft })
+            }
         }
     }
 
@@ -120,8 +140,7 @@ impl Program {
         ensures ok { IfOk result (λ copied. copied ≡ self.now) }
         ensures cause { IfErr result (λ fault. fault ≡ Memory) }
     {
-        let draft = copied(alloc, &self.draft)?;
-        Ok(Program { draft })
+        copied(alloc, self)
     }
 
     pub fn name(&self) -> &Name

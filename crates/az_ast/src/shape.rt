@@ -6,7 +6,7 @@ ghost use Rattle.std.specs.Str.{bytes_eq};
 ghost use Rattle.az_ast.specs.Shapes.{has_twice, header_kind, declaration_kind, equation_kind, lacks_equation, of_variable, is_index_name, is_input, is_sub};
 
 use crate::index_name::is_index_name;
-use crate::part_tests::{BadReduction, OtherArity};
+use crate::sought_parts::{BadReduction, OtherArity};
 use crate::walk::some_part;
 use crate::{Equation, Op, Role, ShapeKind, Variable};
 use az_lin::Name;

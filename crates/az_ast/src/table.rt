@@ -4,12 +4,13 @@ ghost use Rattle.std.specs.Prelude.{◌≡◌, ℤ, MatchOption, length, IfOk, I
 ghost use Rattle.std.specs.List.Sorted.{IsBinarySearchResult, IsSearchInRange};
 ghost use Rattle.std.specs.Ordering.{int_cmp};
 ghost use Rattle.std.specs.Cmp.Lexicographic.{slice_cmp};
+ghost use Rattle.az_lin.specs.declared.fault.LinFault.TheVariants as lin;
 ghost use Rattle.az_ast.specs.declared.fault.ShapeFault.TheVariants.{Memory};
 ghost use Rattle.az_ast.specs.Tables.{IsTable, TableGives};
 
 use crate::ShapeFault;
 use crate::copy::copied;
-use az_lin::List;
+use az_lin::{LinFault, List, TryCopy};
 use std::alloc::Global;
 use std::cmp::Ordering;
 use std::marker::Model;
@@ -50,16 +51,25 @@ fn compare(row: &(List<i128>, i64), point: &[i128]) -> Ordering
 fn copied_rows(
     alloc: Global,
     rows: &[(List<i128>, i64)],
-) -> Result<Vec<(List<i128>, i64)>, ShapeFault>
+) -> Result<Vec<(List<i128>, i64)>, LinFault>
     ensures ok { IfOk result (λ copies. copies.items ≡ rows.now) }
-    ensures cause { IfErr result (λ fault. fault ≡ Memory) }
+    ensures cause { IfErr result (λ fault. fault ≡ lin.Memory) }
 {
     let mut copies = Vec::with_capacity(alloc, rows.len())?;
     'rows: for row in rows {
-        let point = copied(alloc, &row.0)?;
+        let point = row.0.copy(alloc)?;
         copies.push((point, row.1))?;
     }
     Ok(copies)
+}
+
+impl TryCopy for Table {
+    fn copy(&self, alloc: Global) -> Result<Self, LinFault> {
+        let rows = copied_rows(alloc, self.rows.as_slice())?;
+        Ok(Table {
+            rows: List::from_vec(rows),
+        })
+    }
 }
 
 impl Table {
@@ -82,10 +92,7 @@ impl Table {
         ensures ok { IfOk result (λ copied. copied ≡ self.now) }
         ensures cause { IfErr result (λ fault. fault ≡ Memory) }
     {
-        let rows = copied_rows(alloc, self.rows.as_slice())?;
-        Ok(Table {
-            rows: List::from_vec(rows),
-        })
+        copied(alloc, self)
     }
 
     /// The value at the point, found by halving.

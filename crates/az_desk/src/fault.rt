@@ -1,7 +1,7 @@
 //! Why a call on a desk did not do what was asked.
 
 ghost use Rattle.std.specs.Prelude.{◌≡◌, Err};
-ghost use Rattle.az_desk.specs.Desk.{HasCause, next_count};
+ghost use Rattle.az_desk.specs.Desk.{next_count};
 ghost use Rattle.az_desk.specs.declared.fault.DeskFault.TheVariants.{Failed, Memory};
 
 use std::alloc::{AllocError, AllocFailed};
@@ -36,7 +36,6 @@ impl<T: Drop> From<AllocFailed<T>> for DeskFault {
 pub(crate) fn fail<T>(faults: &mut u64) -> Result<T, DeskFault>
     ensures answer { result ≡ Err Failed }
     ensures counted { faults.new ≡ next_count faults.old }
-    ensures cause { HasCause faults.old faults.new result }
 {
     *faults = faults.saturating_add(1);
     Err(DeskFault::Failed)

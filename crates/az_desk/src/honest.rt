@@ -1,6 +1,6 @@
 //! A desk in memory that never fails.
 
-ghost use Rattle.std.specs.Prelude.{◌≡◌, [], Some, position, IfOk, IfErr, OnOk, OnErr};
+ghost use Rattle.std.specs.Prelude.{◌≡◌, [], Some, None, position, IfOk, IfErr, OnOk, OnErr};
 ghost use Rattle.std.specs.Str.{bytes_eq};
 ghost use Rattle.std.specs.Option.{option_copied};
 ghost use Rattle.az_desk.specs.Files.{file_of, with_file};
@@ -40,7 +40,7 @@ fn copy_of(alloc: Global, bytes: &[u8]) -> Result<List<u8>, DeskFault>
     Ok(List::from_vec(Vec::from_slice(alloc, bytes)?))
 }
 
-fn name_of(alloc: Global, name: &str) -> Result<Name, DeskFault>
+pub(crate) fn name_of(alloc: Global, name: &str) -> Result<Name, DeskFault>
     ensures ok { IfOk result (λ made. made ≡ name.now) }
     ensures cause { IfErr result (λ fault. fault ≡ Memory) }
 {
@@ -99,11 +99,7 @@ impl HonestDesk {
 }
 
 impl Desk for HonestDesk {
-    ghost files = { λ desk. Some desk.files };
-
-    ghost said = { λ desk. Some desk.said };
-
-    ghost faults = { λ _. 0 };
+    ghost seen = { λ desk. record { files = Some desk.files; said = Some desk.said; last = Some None; faults = 0 } };
 
     fn read(&mut self, alloc: Global, name: &str) -> Result<List<u8>, DeskFault> {
         let bytes = self.file(name).unwrap_or(&[]);

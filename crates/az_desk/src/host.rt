@@ -46,11 +46,7 @@ impl<'a, R: Files + Print + AllocGlobal> HostDesk<'a, R> {
 }
 
 impl<'a, R: Files + Print + AllocGlobal> Desk for HostDesk<'a, R> {
-    ghost files = { λ _. None };
-
-    ghost said = { λ _. None };
-
-    ghost faults = { λ desk. desk };
+    ghost seen = { λ desk. record { files = None; said = None; last = None; faults = desk } };
 
     fn read(&mut self, alloc: Global, name: &str) -> Result<List<u8>, DeskFault> {
         match front_of_file(self.rt, alloc, name) {

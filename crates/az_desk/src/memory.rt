@@ -1,11 +1,14 @@
 //! A desk in memory that fails at listed calls.
 
-ghost use Rattle.std.specs.Prelude.{◌≡◌, [], Some, take};
-ghost use Rattle.az_desk.specs.Desk.{Reads, Writes, Says, HasCause, next_count};
-ghost use Rattle.az_desk.specs.Failing.{failure_of, ReadsUnlessListed, BringsUnlessListed, contents_with_file, contents_with_said};
+ghost use Rattle.std.specs.Prelude.{◌≡◌, [], None, Err, take};
+ghost use Rattle.std.specs.Option.{option_copied};
+ghost use Rattle.az_desk.specs.declared.call.Call.TheVariants.{Write, Say};
+ghost use Rattle.az_desk.specs.declared.fault.DeskFault.TheVariants.{Failed};
+ghost use Rattle.az_desk.specs.Desk.{Reads, Writes, Says, next_count};
+ghost use Rattle.az_desk.specs.Failing.{seen_of, failure_of, told_failure, ReadsUnlessListed, BringsUnlessListed, contents_with_file, contents_with_said};
 
-use crate::fault::fail;
-use crate::{Desk, DeskFault, HonestDesk};
+use crate::honest::name_of;
+use crate::{Call, Desk, DeskFault, HonestDesk, fault};
 use az_lin::{List, Name};
 use std::alloc::Global;
 use std::marker::Model;
@@ -25,6 +28,7 @@ pub struct MemoryDesk {
     desk: HonestDesk,
     failures: List<Failure>,
     calls: u64,
+    last: Option<Call>,
     faults: u64,
 }
 
@@ -33,7 +37,7 @@ impl Model for MemoryDesk {
 
     ghost Value = { FailingDesk };
 
-    ghost view = { λ it. record { contents = it.desk; failures = it.failures; calls = it.calls; faults = it.faults } };
+    ghost view = { λ it. record { contents = it.desk; failures = it.failures; calls = it.calls; last = it.last; faults = it.faults } };
 }
 
 /// The bytes that a failing call keeps.
@@ -46,12 +50,13 @@ fn front(bytes: &[u8], kept: usize) -> &[u8]
 impl MemoryDesk {
     /// A desk with these files, at which no call was made yet.
     pub fn new(alloc: Global, files: List<(Name, List<u8>)>, failures: List<Failure>) -> MemoryDesk
-        ensures { result ≡ record { contents = record { files = files; said = [] }; failures = failures; calls = 0; faults = 0 } }
+        ensures { result ≡ record { contents = record { files = files; said = [] }; failures = failures; calls = 0; last = None; faults = 0 } }
     {
         MemoryDesk {
             desk: HonestDesk::new(alloc, files),
             failures,
             calls: 0,
+            last: None,
             faults: 0,
         }
     }
@@ -68,6 +73,13 @@ impl MemoryDesk {
         ensures { result ≡ self.now.calls }
     {
         self.calls
+    }
+
+    /// The call that failed last.
+    pub fn last(&self) -> Option<&Call>
+        ensures { option_copied result ≡ self.now.last }
+    {
+        self.last.as_ref()
     }
 
     /// How many calls failed. It stays at 2^64 - 1.
@@ -91,51 +103,51 @@ impl MemoryDesk {
             .find(|failure| failure.call == call);
         listed.map(|failure| failure.kept)
     }
+
+    /// Counts a fault of this call and answers it.
+    fn fail<T>(&mut self, call: Call) -> Result<T, DeskFault>
+        ensures answer { result ≡ Err Failed }
+        ensures told { self.new ≡ told_failure call self.old }
+    {
+        self.last = Some(call);
+        fault::fail(&mut self.faults)
+    }
 }
 
 impl Desk for MemoryDesk {
-    ghost files = { λ desk. Some desk.contents.files };
-
-    ghost said = { λ desk. Some desk.contents.said };
-
-    ghost faults = { λ desk. desk.faults };
+    ghost seen = { seen_of };
 
     fn read(&mut self, alloc: Global, name: &str) -> Result<List<u8>, DeskFault>
-        ensures answer { Reads (Some self.old.contents.files) name.now result }
-        ensures same_files { self.new.contents.files ≡ self.old.contents.files }
-        ensures same_said { self.new.contents.said ≡ self.old.contents.said }
-        ensures cause { HasCause self.old.faults self.new.faults result }
+        ensures answer { Reads name.now (seen_of self.old) result (seen_of self.new) }
         ensures listed { ReadsUnlessListed self.old name.now result self.new }
     {
         if self.begin().is_some() || self.desk.file(name).is_none() {
-            return fail(&mut self.faults);
+            let call = Call::Read(name_of(alloc, name)?);
+            return self.fail(call);
         }
         self.desk.read(alloc, name)
     }
 
     fn write(&mut self, alloc: Global, name: &str, bytes: &[u8]) -> Result<(), DeskFault>
-        ensures answer { Writes (Some self.old.contents.files) name.now bytes.now result (Some self.new.contents.files) }
-        ensures same_said { self.new.contents.said ≡ self.old.contents.said }
-        ensures cause { HasCause self.old.faults self.new.faults result }
-        ensures listed { BringsUnlessListed self.old (contents_with_file self.old.contents name.now) bytes.now result self.new }
+        ensures answer { Writes name.now bytes.now (seen_of self.old) result (seen_of self.new) }
+        ensures listed { BringsUnlessListed (Write name.now) self.old (contents_with_file self.old.contents name.now) bytes.now result self.new }
     {
         let Some(kept) = self.begin() else {
             return self.desk.write(alloc, name, bytes);
         };
+        let call = Call::Write(name_of(alloc, name)?);
         self.desk.write(alloc, name, front(bytes, kept))?;
-        fail(&mut self.faults)
+        self.fail(call)
     }
 
     fn say(&mut self, alloc: Global, bytes: &[u8]) -> Result<(), DeskFault>
-        ensures answer { Says (Some self.old.contents.said) bytes.now result (Some self.new.contents.said) }
-        ensures same_files { self.new.contents.files ≡ self.old.contents.files }
-        ensures cause { HasCause self.old.faults self.new.faults result }
-        ensures listed { BringsUnlessListed self.old (contents_with_said self.old.contents) bytes.now result self.new }
+        ensures answer { Says bytes.now (seen_of self.old) result (seen_of self.new) }
+        ensures listed { BringsUnlessListed Say self.old (contents_with_said self.old.contents) bytes.now result self.new }
     {
         let Some(kept) = self.begin() else {
             return self.desk.say(alloc, bytes);
         };
         self.desk.say(alloc, front(bytes, kept))?;
-        fail(&mut self.faults)
+        self.fail(Call::Say)
     }
 }

@@ -1,9 +1,12 @@
 -- The scalar product: a step of its sum, in range.
-use Rattle.std.proofs.Common.{◌≡◌, ℕ, ◌+◌, ◌*◌, ◌^◌, ◌<◌, ◌≤◌, arith, unsigned_abs, ℤ, pos, ◌+ℤ◌, ◌*ℤ◌, List, length, get_or, drop, FitsSigned, to_z, of_z, add-one}
+use Rattle.std.proofs.Common.{◌≡◌, ℕ, ◌+◌, ◌*◌, ◌^◌, ◌<◌, ◌≤◌, arith, unsigned_abs, ℤ, pos, ◌+ℤ◌, ◌*ℤ◌, List, [], ◌∷◌, All, length, get_or, drop, FitsSigned, to_z, of_z, add-one}
 use Rattle.std.specs.Int.{w128}
 use Rattle.std.proofs.lemmas.Int.{ints, to_z-of_z, fits_signed_from_abs}
 use Rattle.std.proofs.Math.Seq.{drop-cons}
-use Rattle.az_lin.specs.Affine.{IsEntry, dot}
+use Rattle.std.proofs.lemmas.Int.{unsigned_abs-mul}
+use Rattle.std.proofs.lemmas.Nat.{mul-le}
+use Rattle.std.proofs.lemmas.List.Elements.{All-head, All-tail}
+use Rattle.az_lin.specs.Affine.{Affine, IsEntry, IsCoordinate, HasEntries, dot, value_at}
 use Rattle.az_lin.proofs.Magnitude.{unsigned_abs-add, product_of_entries}
 
 entry_fits : (a : ℤ) → IsEntry a → FitsSigned w128 a
@@ -53,3 +56,24 @@ pub dot-step : (xs ys : List ℤ) (i : ℕ) (sum whole : ℤ) → i < length xs 
     → sum +ℤ dot (drop i xs) (drop i ys) ≡ whole
     → (sum +ℤ (get_or xs i (pos 0) *ℤ get_or ys i (pos 0))) +ℤ dot (drop (i + 1) xs) (drop (i + 1) ys) ≡ whole
 dot-step xs ys i sum whole p q same = omega (arith, ints, dot-drop xs ys i p q)
+
+-- a value at coordinates leaves room
+product_of_coordinate : (a b : ℤ) → IsEntry a → IsCoordinate b → unsigned_abs (a *ℤ b) ≤ 2 ^ 100
+product_of_coordinate a b p q =
+    rw unsigned_abs-mul (mul-le (unsigned_abs a) (unsigned_abs b) (2 ^ 60) (2 ^ 40) (omega arith) (omega arith))
+
+dot-small : (cs z : List ℤ) → All IsEntry cs → All IsCoordinate z → unsigned_abs (dot cs z) ≤ length z * 2 ^ 100
+dot-small [] z p q = omega arith
+dot-small (c ∷ cs) [] p q = omega arith
+dot-small (c ∷ cs) (x ∷ z) p q =
+    let here : unsigned_abs (c *ℤ x) ≤ 2 ^ 100 = product_of_coordinate c x (All-head IsEntry c cs p) (All-head IsCoordinate x z q) in
+    let rest : unsigned_abs (dot cs z) ≤ length z * 2 ^ 100 = dot-small cs z (All-tail IsEntry c cs p) (All-tail IsCoordinate x z q) in
+    let both : unsigned_abs ((c *ℤ x) +ℤ dot cs z) ≤ unsigned_abs (c *ℤ x) + unsigned_abs (dot cs z) = unsigned_abs-add (c *ℤ x) (dot cs z) in
+    omega arith
+
+pub value_at-small : (row : Affine) (z : List ℤ) → HasEntries row → length z ≤ 64 → All IsCoordinate z → unsigned_abs (value_at row z) < 2 ^ 107
+value_at-small row z entries narrow q =
+    let sum : unsigned_abs (dot row.coefs z) ≤ length z * 2 ^ 100 = dot-small row.coefs z entries.coefficients q in
+    let constant : unsigned_abs row.konst < 2 ^ 60 = entries.constant in
+    let both : unsigned_abs (dot row.coefs z +ℤ row.konst) ≤ unsigned_abs (dot row.coefs z) + unsigned_abs row.konst = unsigned_abs-add (dot row.coefs z) row.konst in
+    omega arith

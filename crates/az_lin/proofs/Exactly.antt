@@ -1,5 +1,5 @@
 -- What follows from an exact answer.
-use Rattle.std.proofs.Common.{Result, Ok, Err, IfOk, subst, sym}
+use Rattle.std.proofs.Common.{◌≡◌, Result, Ok, Err, IfOk, subst, sym}
 use Rattle.az_lin.specs.Answers.{IsExactly}
 use Rattle.az_lin.specs.declared.fault.LinFault.{LinFault}
 use Rattle.az_lin.specs.declared.fault.LinFault.TheVariants.{Entry, NoInverse, Overflow, Memory}
@@ -17,3 +17,8 @@ handed_on fits value fits' value' Entry exact part = λ all. exact (part all)
 handed_on fits value fits' value' (NoInverse _) exact part = exact
 handed_on fits value fits' value' Overflow exact part = exact
 handed_on fits value fits' value' Memory exact part = tt
+
+-- and of the value that is found alone
+pub ok_law : {A : Type 0} (value : A) (P : A → Type 0) (answer : Result A LinFault) → IfOk answer (λ got. got ≡ value) → P value → IfOk answer P
+ok_law value P (Ok got) is holds = subst P (sym is) holds
+ok_law value P (Err fault) is holds = tt

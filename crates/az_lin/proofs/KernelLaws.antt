@@ -108,7 +108,7 @@ ends_stuck n (suc k) t size short some =
     (λ past. subst (λ s. length s.rest ≤ place_of (length s.pivots) s.rest) (sym (stuck_stays (suc k) t past)) past)
 
 -- the numbers over the pivots: each pivot times its number is the denominator times the row's entry
-exact_negative : (k : ℕ) (q : ℤ) → 0 < k → 0 < unsigned_abs q → unsigned_abs q ∣ k → q *ℤ int_div_euclid (neg_ℤ (pos k)) q ≡ neg_ℤ (pos k)
+pub exact_negative : (k : ℕ) (q : ℤ) → 0 < k → 0 < unsigned_abs q → unsigned_abs q ∣ k → q *ℤ int_div_euclid (neg_ℤ (pos k)) q ≡ neg_ℤ (pos k)
 exact_negative zero q some big h = absurd (omega (arith, some))
 exact_negative (suc k) (pos zero) some big h = absurd (omega (arith, ints, big))
 exact_negative (suc k) (pos (suc n)) some big h = floor_exact (negsuc k) (pos (suc n)) (omega (arith, ints)) h

@@ -20,3 +20,7 @@ pub mod LeastDenominator
 pub mod AddedProducts
 pub mod AllLists
 pub mod Derivations
+pub mod Columns
+pub mod Difference
+pub mod Lists
+pub mod HeldPoints

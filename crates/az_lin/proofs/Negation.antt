@@ -10,7 +10,7 @@ pub neg_mul : (v c : ℤ) → neg_ℤ v *ℤ c ≡ neg_ℤ (v *ℤ c)
 neg_mul v c =
     omega (arith, ints, ap (λ n. up c * n) (neg_is v).0, ap (λ n. down c * n) (neg_is v).0, ap (λ n. up c * n) (neg_is v).1, ap (λ n. down c * n) (neg_is v).1)
 
-dot-negated : (cs z : List ℤ) → dot (map neg_ℤ cs) z ≡ neg_ℤ (dot cs z)
+pub dot-negated : (cs z : List ℤ) → dot (map neg_ℤ cs) z ≡ neg_ℤ (dot cs z)
 dot-negated [] z = refl
 dot-negated (c ∷ cs) [] = refl
 dot-negated (c ∷ cs) (x ∷ z) = omega (arith, ints, neg_mul c x, dot-negated cs z)

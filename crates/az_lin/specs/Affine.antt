@@ -66,3 +66,13 @@ HoldsSome domain z = Any (λ conj. Holds conj z) domain.disjuncts
 
 abbrev pub IsOver : ℕ → Polyhedron → Type 0
 IsOver width conj = conj.width ≡ width
+
+-- what the rows of a conjunction and of a domain have: the width, and entries in range
+abbrev pub HasRowsOver : ℕ → Polyhedron → Type 0
+HasRowsOver width conj = All (HasWidth width) conj.rows
+
+abbrev pub HasEntryConj : Polyhedron → Type 0
+HasEntryConj conj = All HasEntries conj.rows
+
+abbrev pub HasEntryDomain : Union → Type 0
+HasEntryDomain domain = All HasEntryConj domain.disjuncts

@@ -1,6 +1,7 @@
 -- What the inversion of a map answers.
 use Rattle.std.specs.Prelude.{◌≡◌, ◌≢◌, ◌<◌, ◌*◌, ◌^◌, ℕ, zero, suc, List, [], ◌∷◌, length, take, drop, map, All, ℤ, pos, unsigned_abs, ◌*ℤ◌, ◌<ℤ◌, Result, Ok, Err}
 use Rattle.az_lin.specs.Affine.{Affine, AffineMap, IsWide, dot}
+use Rattle.az_lin.specs.CommonDivisor.{DividesEach}
 use Rattle.az_lin.specs.Substitution.{HasEntryRows}
 use Rattle.az_lin.specs.Inversion.{Tableau, start, final, ReducesWide, kernel_vector, inverse_denominator, inverse_numerators, inverse_map}
 use Rattle.az_lin.specs.declared.fault.LinFault.{LinFault}
@@ -55,10 +56,11 @@ TakesBack params f z Entry = Unit {0}
 TakesBack params f z Overflow = Unit {0}
 TakesBack params f z Memory = Unit {0}
 
--- and the denominator is the least: each number that brings all the fractions to whole numbers is a multiple of it
+-- and the denominator is the least: each number that brings all the fractions to whole numbers is a multiple of it;
+-- a vector that goes to zero is the shortest whole one in its direction: its numbers have no common divisor but 1
 abbrev pub HasLeast : LinFault → Type 0
 HasLeast (NoInverse (Rational nums den)) = (m : ℕ) → All (λ x. unsigned_abs den ∣ m * unsigned_abs x) nums → unsigned_abs den ∣ m
-HasLeast (NoInverse (Kernel vector)) = Unit {0}
+HasLeast (NoInverse (Kernel vector)) = (d : ℕ) → DividesEach d vector → d ∣ 1
 HasLeast Entry = Unit {0}
 HasLeast Overflow = Unit {0}
 HasLeast Memory = Unit {0}

@@ -8,3 +8,5 @@ pub mod Derivation
 pub mod RationalPoint
 pub mod Inversion
 pub mod InversionAnswer
+pub mod Columns
+pub mod Difference

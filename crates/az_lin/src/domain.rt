@@ -1,9 +1,10 @@
 //! A domain: the points that at least one of its disjuncts holds.
 
 ghost use Rattle.std.specs.Prelude.{◌≡◌, ◌<◌, [], ◌∷◌, All, length, IfOk, IfErr};
-ghost use Rattle.az_lin.specs.Affine.{Union, IsOver};
+ghost use Rattle.az_lin.specs.Affine.{Union, IsOver, HasRowsOver, HasEntryConj};
 ghost use Rattle.az_lin.specs.declared.fault.LinFault.TheVariants.{Memory};
 
+use crate::conj::known_parts;
 use crate::{Conj, LinFault, List, TryCopy};
 use std::alloc::Global;
 use std::marker::Model;
@@ -16,13 +17,14 @@ pub struct Domain {
 
 impl Model for Domain {
     ghost use Rattle.std.specs.Prelude.{◌<◌, length, All};
-    ghost use Rattle.az_lin.specs.Affine.{Union, IsOver};
+    ghost use Rattle.az_lin.specs.Affine.{Union, IsOver, HasRowsOver, HasEntryConj};
 
     ghost Value = { Union };
 
     ghost view = { λ domain. record { width = domain.width; disjuncts = domain.disjuncts } };
 
-    ghost invariant = { λ domain. All (IsOver domain.width) domain.disjuncts × (0 < length domain.disjuncts) };
+    ghost invariant = { λ domain. All (IsOver domain.width) domain.disjuncts × (0 < length domain.disjuncts)
+        × All (HasRowsOver domain.width) domain.disjuncts × All HasEntryConj domain.disjuncts };
 }
 
 impl Domain {
@@ -31,6 +33,7 @@ impl Domain {
         ensures cause { IfErr result (λ fault. fault ≡ Memory) }
     {
         let width = conj.width();
+        conj.known(width);
         let mut disjuncts = List::new(alloc);
         disjuncts.push(conj)?;
         Ok(Domain { width, disjuncts })
@@ -43,6 +46,7 @@ impl Domain {
         ensures ok { IfOk result (λ domain. domain ≡ record { width = width; disjuncts = conjs }) }
         ensures cause { IfErr result (λ fault. fault ≡ Memory) }
     {
+        known_parts(conjs.as_slice(), width);
         Ok(Domain {
             width,
             disjuncts: conjs,
@@ -59,6 +63,8 @@ impl Domain {
         ensures value { result.now ≡ self.now.disjuncts }
         ensures widths { All (IsOver self.now.width) result.now }
         ensures some { 0 < length result.now }
+        ensures rows { All (HasRowsOver self.now.width) result.now }
+        ensures entries { All HasEntryConj result.now }
     {
         self.disjuncts.as_slice()
     }

@@ -7,7 +7,7 @@ ghost use Rattle.az_lin.specs.Combination.{HasWideEntries, combination, IsWideCo
 ghost use Rattle.az_lin.specs.declared.fault.LinFault.TheVariants.{Memory};
 
 use crate::scaled_sum::{sum_of_scaled, sums_of_scaled};
-use crate::{LinFault, Row, RowView, Weights};
+use crate::{LinFault, Row, RowView, TryCopy, Weights};
 use smallvec::SmallVec;
 use std::alloc::Global;
 use std::marker::Model;
@@ -118,6 +118,16 @@ impl ExactRow {
             coefs,
             konst: konst.div_euclid(divisor),
         }
+    }
+}
+
+impl TryCopy for ExactRow {
+    fn copy(&self, alloc: Global) -> Result<Self, LinFault> {
+        let coefs = SmallVec::from_slice(alloc, self.coefs.as_slice())?;
+        Ok(ExactRow {
+            coefs,
+            konst: self.konst,
+        })
     }
 }
 

@@ -3,8 +3,8 @@
 ghost use Rattle.std.specs.Prelude.{◌≡◌};
 ghost use Rattle.az_lin.specs.declared.fault.LinFault.TheVariants.{Memory};
 
-use crate::List;
-use std::alloc::{AllocError, AllocFailed};
+use crate::{List, TryCopy};
+use std::alloc::{AllocError, AllocFailed, Global};
 
 #[derive(Debug, Drop)]
 pub enum LinFault {
@@ -40,5 +40,17 @@ impl<T: Drop> From<AllocFailed<T>> for LinFault {
 
     fn from(_: AllocFailed<T>) -> Self {
         LinFault::Memory
+    }
+}
+
+impl TryCopy for NoInverse {
+    fn copy(&self, alloc: Global) -> Result<Self, LinFault> {
+        match self {
+            NoInverse::Kernel(vector) => Ok(NoInverse::Kernel(vector.copy(alloc)?)),
+            NoInverse::Rational { nums, den } => {
+                let nums = nums.copy(alloc)?;
+                Ok(NoInverse::Rational { nums, den: *den })
+            }
+        }
     }
 }

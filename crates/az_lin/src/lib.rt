@@ -14,6 +14,7 @@ mod invert;
 mod limit;
 mod list;
 mod map;
+mod membership;
 mod name;
 mod place;
 mod products;

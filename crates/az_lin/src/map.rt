@@ -5,6 +5,7 @@ ghost use Rattle.az_lin.specs.Affine.{AffineMap, HasWidth, HasEntries, IsCoordin
 ghost use Rattle.az_lin.specs.Answers.{IsExactly};
 ghost use Rattle.az_lin.specs.Substitution.{Point, HasEntryRows, composed_map};
 
+use crate::row::known;
 use crate::{LinFault, List, Row, TryCopy};
 use std::alloc::Global;
 use std::marker::Model;
@@ -17,13 +18,13 @@ pub struct Map {
 
 impl Model for Map {
     ghost use Rattle.std.specs.Prelude.{All};
-    ghost use Rattle.az_lin.specs.Affine.{AffineMap, HasWidth};
+    ghost use Rattle.az_lin.specs.Affine.{AffineMap, HasWidth, HasEntries};
 
     ghost Value = { AffineMap };
 
     ghost view = { λ map. record { width = map.width; rows = map.rows } };
 
-    ghost invariant = { λ map. All (HasWidth map.width) map.rows };
+    ghost invariant = { λ map. All (HasWidth map.width) map.rows × All HasEntries map.rows };
 }
 
 impl Map {
@@ -31,6 +32,7 @@ impl Map {
         requires { All (HasWidth width) rows }
         ensures { result ≡ record { width = width; rows = rows } }
     {
+        known(rows.as_slice());
         Map { width, rows }
     }
 
@@ -44,6 +46,7 @@ impl Map {
     pub fn rows(&self) -> &[Row]
         ensures value { result.now ≡ self.now.rows }
         ensures widths { All (HasWidth self.now.width) result.now }
+        ensures entries { All HasEntries result.now }
     {
         self.rows.as_slice()
     }

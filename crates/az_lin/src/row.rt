@@ -1,7 +1,7 @@
 //! A row: the coefficients of an affine form by column, and its constant.
 
-ghost use Rattle.std.specs.Prelude.{neg_ℤ, ◌≡◌, ◌^◌, ◌<◌, ◌≤◌, length, All, IsTrue, ◌↔◌, IfOk, IfErr, slice_get};
-ghost use Rattle.az_lin.specs.Affine.{Affine, IsEntry, IsCoordinate, HasEntries, value_at, image_of, IsAtLeastZero};
+ghost use Rattle.std.specs.Prelude.{neg_ℤ, ◌≡◌, ◌^◌, ◌<◌, ◌≤◌, length, All, IsTrue, ◌↔◌, IfOk, IfErr, slice_get, unsigned_abs};
+ghost use Rattle.az_lin.specs.Affine.{Affine, IsEntry, IsCoordinate, IsWide, HasEntries, value_at, image_of, IsAtLeastZero};
 ghost use Rattle.az_lin.specs.Answers.{IsExactly};
 ghost use Rattle.az_lin.specs.Substitution.{Point, less, shifted, composed};
 ghost use Rattle.az_lin.specs.Negation.{negated};
@@ -99,18 +99,47 @@ impl Row {
     {
         self.konst
     }
+
+    /// Lets a caller know that the entries are in range.
+    fn known(&self)
+        ensures { HasEntries self.now }
+    {
+        let _ = &self.konst;
+    }
+}
+
+/// Lets a caller know that the entries of each row are in range.
+pub(crate) fn known(rows: &[Row])
+    ensures { All HasEntries rows.now }
+{
+    'rows: for row in rows {
+        row.known();
+    }
 }
 
 impl Row {
     /// The value at a point of the row's width. The width is at most 64 and the coordinates lie
-    /// within ±(2^40 - 1), so nothing overflows.
+    /// within ±(2^40 - 1), so nothing overflows, and there is room for a few sums more.
     pub fn value(&self, z: &[i128]) -> i128
         requires width { length z.now ≡ length self.now.coefs }
         requires narrow { length z.now ≤ 64 }
         requires range { All IsCoordinate z.now }
-        ensures { result ≡ value_at self.now z.now }
+        ensures value { result ≡ value_at self.now z.now }
+        ensures range { unsigned_abs result < 2 ^ 107 }
     {
         scalar_product(self.coefs.as_slice(), z) + self.konst
+    }
+
+    /// The value at numbers within ±(2^60 - 1), as parameters may be, of which there are at most 64.
+    /// Columns beyond them count for nothing.
+    pub fn value_at_params(&self, params: &[i128]) -> i128
+        requires width { length params.now ≤ length self.now.coefs }
+        requires narrow { length params.now ≤ 64 }
+        requires range { All IsEntry params.now }
+        ensures value { result ≡ value_at self.now params.now }
+        ensures range { IsWide result }
+    {
+        scalar_product(&self.coefs.as_slice()[..params.len()], params) + self.konst
     }
 
     /// The row whose value at `z` is the old one at `z - v`.

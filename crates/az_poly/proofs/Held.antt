@@ -7,7 +7,7 @@ use Rattle.az_lin.specs.Affine.{AffineMap, Polyhedron, Union, HasWidth, IsOver, 
 use Rattle.az_lin.specs.Substitution.{less, shifted, composed}
 use Rattle.az_lin.proofs.Substitution.{value_at-shifted, value_at-composed}
 use Rattle.az_poly.specs.Operations.{both, intersection, conj_before, domain_before, conj_moved, domain_moved}
-use Rattle.az_poly.proofs.Lists.{Any-nil, Any-here, Any-there, Any-cons, Any-append, Any-map, All-map_same, All-left, All-right}
+use Rattle.az_lin.proofs.Lists.{Any-nil, Any-here, Any-there, Any-cons, Any-append, Any-map, All-map_same, All-left, All-right}
 
 both_holds : (first second : Polyhedron) (z : List ℤ) → Holds (both first second) z ↔ (Holds first z × Holds second z)
 both_holds first second z = (

@@ -1,4 +1,3 @@
-pub mod Lists
 pub mod Held
 pub mod Pieces
 pub mod Exactly

@@ -12,7 +12,7 @@ use Rattle.az_poly.specs.Answers.{IsExactly, IsDifference, HasEntryNegations}
 use Rattle.az_poly.specs.declared.fault.PolyFault.{PolyFault}
 use Rattle.az_poly.specs.declared.fault.PolyFault.TheVariants.{Entry, Limit, Memory}
 use Rattle.az_poly.specs.Operations.{piece, pieces_from, pieces}
-use Rattle.az_poly.proofs.Lists.{Any-nil, Any-here, Any-there, Any-cons, All-left, All-right, AllPairs-nil, AllPairs-cons}
+use Rattle.az_lin.proofs.Lists.{Any-nil, Any-here, Any-there, Any-cons, All-left, All-right, AllPairs-nil, AllPairs-cons}
 
 at_least_or_not : (z : List ℤ) (row : Affine) → IsAtLeastZero z row ⊎ (IsAtLeastZero z row → ⊥)
 at_least_or_not z row = by_lt_z (value_at row z) (pos 0) (λ below. inr (λ above. absurd (omega (arith, ints, below, above)))) (λ above. inl above)

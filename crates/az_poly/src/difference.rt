@@ -5,21 +5,23 @@ ghost use Rattle.std.specs.List.{All, Any, AllPairs};
 ghost use Rattle.az_lin.specs.Affine.{HasWidth, HasEntries, Holds};
 ghost use Rattle.az_lin.specs.Negation.{negated};
 ghost use Rattle.az_lin.specs.Substitution.{Point};
-ghost use Rattle.az_poly.specs.Answers.{IsExactly, IsDifference};
+ghost use Rattle.az_lin.specs.Answers as lin;
+ghost use Rattle.az_poly.specs.Answers.{IsDifference};
 ghost use Rattle.az_poly.specs.Operations.{piece};
 
 use crate::PolyFault;
 use crate::copies::push_copies;
-use az_lin::{Conj, Limit, List, Row};
+use crate::fault::of_rows;
+use az_lin::{Conj, Limit, LinFault, List, Row};
 use std::alloc::Global;
 
 const MOST_PIECES: usize = 256;
 
 /// The rows of `conj`, then those before the row, then the negation of the row.
-fn cut(alloc: Global, conj: &Conj, before: &[Row], row: &Row) -> Result<Conj, PolyFault>
+fn cut(alloc: Global, conj: &Conj, before: &[Row], row: &Row) -> Result<Conj, LinFault>
     requires widths { All (HasWidth conj.now.width) before.now }
     requires width { HasWidth conj.now.width row.now }
-    ensures { IsExactly (λ _. HasEntries (negated row.now)) (piece conj.now.width (conj.now.rows ++ before.now) row.now) result }
+    ensures { lin.IsExactly (λ _. HasEntries (negated row.now)) (piece conj.now.width (conj.now.rows ++ before.now) row.now) result }
 {
     let own = conj.rows();
     let mut rows = Vec::new(alloc);
@@ -44,7 +46,7 @@ pub fn minus(alloc: Global, a: &Conj, b: &Conj) -> Result<List<Conj>, PolyFault>
     let mut pieces = Vec::with_capacity(alloc, removed.len())?;
     'cuts: for number in 0..removed.len() {
         let before = &removed[..number];
-        pieces.push(cut(alloc, a, before, &removed[number])?)?;
+        pieces.push(of_rows(cut(alloc, a, before, &removed[number]))?)?;
     }
     Ok(List::from_vec(pieces))
 }

@@ -1,7 +1,7 @@
 //! Why an operation on polyhedra gives no result.
 
-ghost use Rattle.std.specs.Prelude.{◌≡◌};
-ghost use Rattle.az_poly.specs.Answers.{poly_fault};
+ghost use Rattle.std.specs.Prelude.{◌≡◌, IfErr};
+ghost use Rattle.az_poly.specs.Answers.{IsRowFault, AnswersAs};
 ghost use Rattle.az_poly.specs.declared.fault.PolyFault.TheVariants.{Memory};
 
 use az_lin::{Limit, LinFault};
@@ -17,15 +17,16 @@ pub enum PolyFault {
     Memory,
 }
 
-/// Of the faults of rows only `Entry` and `Memory` come from the calls that are made here.
-impl From<LinFault> for PolyFault {
-    ghost from_gives = { λ fault e. e ≡ poly_fault fault };
-
-    fn from(fault: LinFault) -> Self {
-        match fault {
-            LinFault::Entry => PolyFault::Entry,
-            _ => PolyFault::Memory,
-        }
+/// An answer about rows that finds an entry out of range, or for which memory runs out.
+pub(crate) fn of_rows<T>(answer: Result<T, LinFault>) -> Result<T, PolyFault>
+    requires { IfErr answer IsRowFault }
+    ensures { AnswersAs answer result }
+{
+    match answer {
+        Ok(value) => Ok(value),
+        Err(LinFault::Entry) => Err(PolyFault::Entry),
+        Err(LinFault::Memory) => Err(PolyFault::Memory),
+        Err(_) => unreachable!(),
     }
 }
 

@@ -15,6 +15,3 @@ pub use fault::PolyFault;
 pub use intersection::meet;
 pub use membership::contains;
 pub use substitution::{image_by_inverse, preimage, translate};
-
-#[cfg(test)]
-mod tests;

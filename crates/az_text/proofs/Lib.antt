@@ -12,3 +12,4 @@ pub mod Given
 pub mod Spans
 pub mod Pieces
 pub mod WordTokens
+pub mod LumpLaws

@@ -26,7 +26,7 @@ number_from_numeral : (ds : List ℕ) → IsNumeral 10 ds → IsNumber ds
 number_from_numeral [] h = absurd (omega (arith, h.0))
 number_from_numeral (d ∷ ds) h = all_digits (d ∷ ds) h.1
 
-spells_spelling : (kind : TokenKind) → IsSpellable kind → Spells kind (spelling kind)
+pub spells_spelling : (kind : TokenKind) → IsSpellable kind → Spells kind (spelling kind)
 spells_spelling (Word name) h = (h, refl)
 spells_spelling (Number n) h =
     let numeral = decimal_is_IsNumeral_wide n (omega (arith, h)) in
@@ -34,7 +34,7 @@ spells_spelling (Number n) h =
 spells_spelling (Quoted inner) h = (h, refl)
 spells_spelling (Mark kind) h = refl
 
-narrow_spelling : (kind : TokenKind) → IsSpellable kind → IsNarrow kind
+pub narrow_spelling : (kind : TokenKind) → IsSpellable kind → IsNarrow kind
 narrow_spelling (Word name) h = tt
 narrow_spelling (Number n) h = h
 narrow_spelling (Quoted inner) h = tt

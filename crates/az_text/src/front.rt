@@ -1,28 +1,25 @@
 //! What a text begins with: a token, what stands between tokens, or neither.
 
-ghost use Rattle.std.specs.Prelude.{◌≡◌, ◌<◌, ◌≤◌, ◌^◌, List, ℕ, length, IfOk, IfErr};
+ghost use Rattle.std.specs.Prelude.{◌≡◌, ◌<◌, ◌≤◌, ◌^◌, List, ℕ, length};
 ghost use Rattle.std.specs.Char.{is_ascii_digit};
 ghost use Rattle.std.specs.List.{prefix_len};
 ghost use Rattle.std.specs.Str.{IsAscii};
-ghost use Rattle.az_text.specs.declared.fault.LexFault.TheVariants.{Memory};
 ghost use Rattle.az_text.specs.Tokens.{is_blank, is_word_byte, is_inner, is_before_line_feed, AllAre};
 ghost use Rattle.az_text.specs.Fronts.{front_of, word_front, number_front, quoted_front, comment_front, mark_front, value_below};
 
 use crate::mark::{double_mark, single_mark};
-use crate::{LexFault, TokenKind};
-use az_lin::Name;
-use std::alloc::Global;
+use crate::{Lent, TokenKind};
 
 /// The greatest number that is a token.
 const MOST: u128 = (1 << 127) - 1;
 
 /// What a text begins with, and of how many bytes it is.
 #[derive(Drop)]
-pub(crate) enum Front {
+pub(crate) enum Front<'a> {
     /// A blank or a comment.
     Between(usize),
     /// The longest token.
-    Cut(TokenKind, usize),
+    Cut(TokenKind<'a>, usize),
     /// A number above 2^127 - 1.
     Wide,
     /// None of these.
@@ -47,14 +44,13 @@ fn is_inner(byte: u8) -> bool
     b' ' <= byte && byte <= b'~' && byte != b'"'
 }
 
-/// The ASCII bytes as a name.
-fn name_of(alloc: Global, bytes: &[u8]) -> Result<Name, LexFault>
+/// The ASCII bytes as a text.
+fn lent(bytes: &[u8]) -> Lent<'_>
     requires { IsAscii bytes.now }
-    ensures ok { IfOk result (λ name. name ≡ bytes.now) }
-    ensures cause { IfErr result (λ fault. fault ≡ Memory) }
+    ensures { result ≡ bytes.now }
 {
     match str::from_utf8(bytes) {
-        Ok(text) => Name::from_str(alloc, text).map_err(|_| LexFault::Memory),
+        Ok(text) => Lent::new(text),
         Err(_) => unreachable!(),
     }
 }
@@ -89,13 +85,11 @@ fn line_len(text: &[u8]) -> usize
 
 /// The word at the front of a text that begins with a letter.
 #[tactic(auto, unfolding(crate::specs::Fronts::word_front))]
-fn word_front(alloc: Global, text: &[u8]) -> Result<Front, LexFault>
-    ensures ok { IfOk result (λ front. front ≡ word_front text.now) }
-    ensures cause { IfErr result (λ fault. fault ≡ Memory) }
+fn word_front(text: &[u8]) -> Front<'_>
+    ensures { result ≡ word_front text.now }
 {
     let len = word_len(text);
-    let name = name_of(alloc, &text[..len])?;
-    Ok(Front::Cut(TokenKind::Word(name), len))
+    Front::Cut(TokenKind::Word(lent(&text[..len])), len)
 }
 
 /// The value of the digits, where it is below 2^127.
@@ -118,7 +112,7 @@ fn value_of(digits: &[u8]) -> Option<u128>
 
 /// The number at the front of a text that begins with a digit.
 #[tactic(auto, unfolding(crate::specs::Fronts::number_front))]
-fn number_front(text: &[u8]) -> Front
+fn number_front(text: &[u8]) -> Front<'_>
     ensures { result ≡ number_front text.now }
 {
     let len = digits_len(text);
@@ -130,23 +124,21 @@ fn number_front(text: &[u8]) -> Front
 
 /// The quoted text whose opening quote stands before this text.
 #[tactic(auto, unfolding(crate::specs::Fronts::quoted_front))]
-fn quoted_front(alloc: Global, text: &[u8]) -> Result<Front, LexFault>
+fn quoted_front(text: &[u8]) -> Front<'_>
     requires { length text.now < 2 ^ 63 }
-    ensures ok { IfOk result (λ front. front ≡ quoted_front text.now) }
-    ensures cause { IfErr result (λ fault. fault ≡ Memory) }
+    ensures { result ≡ quoted_front text.now }
 {
     let len = inner_len(text);
     if len < text.len() && text[len] == b'"' {
-        let inner = name_of(alloc, &text[..len])?;
-        Ok(Front::Cut(TokenKind::Quoted(inner), len + 2))
+        Front::Cut(TokenKind::Quoted(lent(&text[..len])), len + 2)
     } else {
-        Ok(Front::Nothing)
+        Front::Nothing
     }
 }
 
 /// The comment whose first slash stands before this text.
 #[tactic(auto, unfolding(crate::specs::Fronts::comment_front))]
-fn comment_front(text: &[u8]) -> Front
+fn comment_front(text: &[u8]) -> Front<'_>
     requires { length text.now < 2 ^ 63 }
     ensures { result ≡ comment_front text.now }
 {
@@ -158,7 +150,7 @@ fn comment_front(text: &[u8]) -> Front
 
 /// The mark at the front of a text.
 #[tactic(auto, unfolding(crate::specs::Fronts::mark_front))]
-fn mark_front(text: &[u8]) -> Front
+fn mark_front(text: &[u8]) -> Front<'_>
     ensures { result ≡ mark_front text.now }
 {
     let (kind, len) = match text {
@@ -177,25 +169,24 @@ fn mark_front(text: &[u8]) -> Front
 
 /// What a text begins with.
 #[tactic(auto, unfolding(crate::specs::Fronts::front_of))]
-pub(crate) fn front_of(alloc: Global, text: &[u8]) -> Result<Front, LexFault>
+pub(crate) fn front_of(text: &[u8]) -> Front<'_>
     requires { length text.now < 2 ^ 63 }
-    ensures ok { IfOk result (λ front. front ≡ front_of text.now) }
-    ensures cause { IfErr result (λ fault. fault ≡ Memory) }
+    ensures { result ≡ front_of text.now }
 {
     let [first, rest @ ..] = text else {
-        return Ok(Front::Nothing);
+        return Front::Nothing;
     };
     if is_blank(*first) {
-        Ok(Front::Between(1))
+        Front::Between(1)
     } else if first.is_ascii_alphabetic() {
-        word_front(alloc, text)
+        word_front(text)
     } else if first.is_ascii_digit() {
-        Ok(number_front(text))
+        number_front(text)
     } else if *first == b'"' {
-        quoted_front(alloc, rest)
+        quoted_front(rest)
     } else if *first == b'/' {
-        Ok(comment_front(rest))
+        comment_front(rest)
     } else {
-        Ok(mark_front(text))
+        mark_front(text)
     }
 }

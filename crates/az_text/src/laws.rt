@@ -2,6 +2,7 @@
 
 ghost use Rattle.az_text.specs.Pieces.{SpelledTokenIsCut, PiecesAreRead};
 ghost use Rattle.az_text.specs.Fronts.{LexedIsTheReading};
+ghost use Rattle.az_text.specs.Lumps.{LumpsAreRead};
 
 /// Spelling a token, and then something at which it ends, begins with that token.
 pub fn spelled_token_is_cut()
@@ -11,6 +12,11 @@ pub fn spelled_token_is_cut()
 /// A text of spelled tokens that stand apart has those tokens.
 pub fn pieces_are_read()
     ensures { PiecesAreRead }
+{}
+
+/// Tokens and blanks that stand apart are read as those tokens, and how they are joined.
+pub fn lumps_are_read()
+    ensures { LumpsAreRead }
 {}
 
 /// Each text has one answer by the grammar, the one that is computed.

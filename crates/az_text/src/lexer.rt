@@ -12,13 +12,13 @@ use az_lin::List;
 use std::alloc::Global;
 
 /// The tokens of a text in order, or its first fault.
-fn tokens_of(alloc: Global, text: &[u8]) -> Result<List<Token>, LexFault>
+fn tokens_of(alloc: Global, text: &[u8]) -> Result<List<Token<'_>>, LexFault>
     ensures { Answers result (lexed text.now) }
 {
     let mut tokens = Vec::new(alloc);
     let mut from = 0;
     while from < text.len() {
-        match front_of(alloc, &text[from..])? {
+        match front_of(&text[from..]) {
             Front::Between(len) => from += len,
             Front::Cut(kind, len) => {
                 let to = from + len;
@@ -33,8 +33,8 @@ fn tokens_of(alloc: Global, text: &[u8]) -> Result<List<Token>, LexFault>
 }
 
 /// The tokens of a text in order, each with its span, or the first fault. The time is linear in the
-/// length of the text.
-pub fn lex(alloc: Global, text: &[u8]) -> Result<List<Token>, LexFault>
+/// length of the text, which lends the tokens their words.
+pub fn lex(alloc: Global, text: &[u8]) -> Result<List<Token<'_>>, LexFault>
     // The answer is one that the grammar gives.
     ensures found { IsReadOf text.now result }
     // No other is.

@@ -7,6 +7,7 @@
 mod fault;
 mod front;
 mod laws;
+mod lent;
 mod lexer;
 mod mark;
 #[cfg(test)]
@@ -14,7 +15,8 @@ mod tests;
 mod token;
 
 pub use fault::LexFault;
-pub use laws::{lexed_is_the_reading, pieces_are_read, spelled_token_is_cut};
+pub use laws::{lexed_is_the_reading, lumps_are_read, pieces_are_read, spelled_token_is_cut};
+pub use lent::Lent;
 pub use lexer::lex;
 pub use mark::MarkKind;
 pub use token::{Token, TokenKind};

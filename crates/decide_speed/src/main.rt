@@ -19,6 +19,25 @@ use std::alloc::Global;
 use std::env;
 use std::process::ExitCode;
 
+/// Why the rounds end early.
+#[derive(Debug, Drop)]
+enum Stop {
+    Rows(LinFault),
+    Elimination(FindFault),
+}
+
+impl From<LinFault> for Stop {
+    fn from(fault: LinFault) -> Self {
+        Stop::Rows(fault)
+    }
+}
+
+impl From<FindFault> for Stop {
+    fn from(fault: FindFault) -> Self {
+        Stop::Elimination(fault)
+    }
+}
+
 #[derive(Debug, Clone, Copy, PartialEq, Eq)]
 struct Tally {
     refuted: u64,
@@ -56,10 +75,10 @@ impl Tally {
 }
 
 /// Decides the system, and has the derivation checked where that is asked for.
-fn judge(alloc: Global, parts: &[Rows; 6], checked: bool) -> Result<bool, FindFault> {
+fn judge(alloc: Global, parts: &[Rows; 6], checked: bool) -> Result<bool, Stop> {
     let system = system(alloc, parts)?;
     if checked {
-        return is_refuted(alloc, &system);
+        return Ok(is_refuted(alloc, &system)?);
     }
     match decide(alloc, &system)? {
         Decision::Refuted(_) => Ok(true),
@@ -67,7 +86,7 @@ fn judge(alloc: Global, parts: &[Rows; 6], checked: bool) -> Result<bool, FindFa
     }
 }
 
-fn round(alloc: Global, tally: &mut Tally, checked: bool) -> Result<(), FindFault> {
+fn round(alloc: Global, tally: &mut Tally, checked: bool) -> Result<(), Stop> {
     for same in SAME_CELL {
         for other in OTHER_THAN_READ {
             for after in NOT_BEFORE_READ {
@@ -83,7 +102,7 @@ fn round(alloc: Global, tally: &mut Tally, checked: bool) -> Result<(), FindFaul
     Ok(())
 }
 
-fn rounds(alloc: Global, times: u32) -> Result<Tally, FindFault> {
+fn rounds(alloc: Global, times: u32) -> Result<Tally, Stop> {
     let mut tally = Tally {
         refuted: 0,
         open: 0,

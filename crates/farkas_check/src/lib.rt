@@ -2,7 +2,8 @@
 //! derivation that it accepts refutes the system at all whole numbers.
 //!
 //! `specs/Verdict.antt` says what its answers mean, over az_lin's `specs/Derivation.antt` and
-//! `specs/RationalPoint.antt`. It shares no code with the search for derivations.
+//! `specs/RationalPoint.antt`. The search for derivations stands on the same exact rows of az_lin
+//! (their sums, products and quotients), which are proved there; the two share nothing else.
 #![tactic(auto)]
 
 mod fault;
@@ -13,6 +14,3 @@ mod satisfy;
 pub use fault::CheckFault;
 pub use judge::{check, check_exact};
 pub use satisfy::satisfies;
-
-#[cfg(test)]
-mod tests;

@@ -16,7 +16,7 @@ use Rattle.farkas_find.specs.Tidying.{row_at, coef_at, is_zero}
 use Rattle.farkas_find.specs.Combining.{is_positive, is_negative, IsPair}
 use Rattle.farkas_find.specs.Choosing.{count_with, first_of, is_negative_of, negative_place, oriented, pair_at, pair_in, choice_with, choice_by_pair, is_live, better_of, column_by_count, choice_of, is_free, free_columns}
 use Rattle.farkas_find.specs.Answers.{choice_in}
-use Rattle.farkas_find.specs.Nexts.{IsPairChoice, IsChoice}
+use Rattle.farkas_find.specs.Inner.Nexts.{IsPairChoice, IsChoice}
 use Rattle.farkas_find.proofs.Paired.{inside_range, left_of_and, right_of_and}
 
 first_of-Some : {A B : Type 0} (P : A → Type 0) (give : A → Option B) (xs : List A) (v : B) → All P xs → first_of give xs ≡ Some v

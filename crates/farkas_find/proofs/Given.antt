@@ -5,7 +5,7 @@ use Rattle.farkas_find.specs.declared.numbered.Numbered.{Numbered}
 use Rattle.farkas_find.specs.declared.fault.FindFault.{FindFault}
 use Rattle.farkas_find.specs.declared.fault.FindFault.TheVariants.{Memory}
 use Rattle.farkas_find.specs.Stages.{HasFew}
-use Rattle.farkas_find.specs.Nexts.{GivenAnswers}
+use Rattle.farkas_find.specs.Inner.Nexts.{GivenAnswers}
 
 pub given_answers : (wanted : List Numbered) (result : Result (Vec Numbered) FindFault) → HasFew wanted → IfOk result (λ got. got.items ≡ wanted)
     → IfErr result (λ fault. fault ≡ Memory) → GivenAnswers wanted result

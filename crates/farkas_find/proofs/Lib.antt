@@ -38,3 +38,7 @@ pub mod Ending
 pub mod Winning
 pub mod Alone
 pub mod OneVerdict
+pub mod Ranges
+pub mod OneAnswer
+pub mod Fewest
+pub mod Twins

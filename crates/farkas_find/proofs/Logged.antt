@@ -165,7 +165,7 @@ quotient_is_rounded row (suc (suc g)) e =
     let above : nat_lt 1 (suc (suc g)) ≡ true = grind arith in
     rw (← e, above) refl
 
-sum_wide : (a : ℤ) (left : Affine) (b : ℤ) (right : Affine) → IsWideCombination a left b right → HasWideEntries (combination a left b right)
+pub sum_wide : (a : ℤ) (left : Affine) (b : ℤ) (right : Affine) → IsWideCombination a left b right → HasWideEntries (combination a left b right)
 sum_wide a left b right wide =
     wide_row_of_sums a left.coefs b right.coefs left.konst right.konst (combination a left b right).coefs (combination a left b right).konst
     (wide.coefficients, refl) (wide.constant, refl)

@@ -11,7 +11,7 @@ use Rattle.farkas_find.specs.declared.trail.Eliminated.{Eliminated}
 use Rattle.farkas_find.specs.Tidying.{coef_at, is_zero, rounded, rounded_rows, contradiction_in}
 use Rattle.farkas_find.specs.Combining.{HaveWidth, combined_at, numbered_from}
 use Rattle.farkas_find.specs.Choosing.{free_columns}
-use Rattle.farkas_find.specs.Nexts.{IsChoice, IsPairChoice}
+use Rattle.farkas_find.specs.Inner.Nexts.{IsChoice, IsPairChoice}
 use Rattle.farkas_find.specs.Stages.{first_stage, tidied_rows, tidied_stage, rows_without, pairs_by, pairs_for, next_rows, rows_after, stage_after, without_column, Follows, IsReached}
 use Rattle.farkas_find.specs.BackSubstitution.{cleared, bounds_at, taken, placed, point_from}
 use Rattle.farkas_find.proofs.Sublists.{All-filter_back, All-map_back, All-append_back, All-numbered_back}

@@ -15,7 +15,7 @@ use Rattle.farkas_find.specs.Combining.{is_positive, is_negative, has_sign, plac
 use Rattle.farkas_find.specs.Choosing.{count_with}
 use Rattle.farkas_find.specs.declared.choice.Choice.{Choice}
 use Rattle.farkas_find.specs.Stages.{rows_without, pairs_by, pairs_for}
-use Rattle.farkas_find.specs.Nexts.{IsChoice, IsPairChoice}
+use Rattle.farkas_find.specs.Inner.Nexts.{IsChoice, IsPairChoice}
 
 -- a list is what its places give
 count_by-map : {X Y : Type 0} (p : Y → Bool) (f : X → Y) (xs : List X) → count_by p (map f xs) ≡ count_by (λ x. p (f x)) xs

@@ -24,7 +24,7 @@ use Rattle.farkas_find.specs.Combining.{combined_at, step_at, numbered_from}
 use Rattle.farkas_find.specs.Choosing.{free_columns}
 use Rattle.farkas_find.specs.Stages.{given_rows, first_stage, tidied_rows, tidied_stage, rows_without, pairs_for, next_rows, StaysWide, without_column, IsReached, EndsBy}
 use Rattle.farkas_find.specs.Needed.{derivation_of}
-use Rattle.farkas_find.specs.Nexts.{IsChoice}
+use Rattle.farkas_find.specs.Inner.Nexts.{IsChoice}
 use Rattle.farkas_find.proofs.Keeping.{All-picked}
 use Rattle.farkas_find.proofs.Chosen.{choice-is_choice}
 use Rattle.farkas_find.proofs.Paired.{pairs_for-are_pairs}

@@ -21,7 +21,7 @@ use Rattle.std.specs.List.{Contains}
 use Rattle.farkas_find.specs.declared.trail.Stage.{Stage}
 use Rattle.farkas_find.specs.Choosing.{free_columns, is_live}
 use Rattle.farkas_find.specs.Stages.{pairs_for, next_rows, rows_after, StaysWide, HasFew, IsReached, Chooses, LeavesRangeAt, tidied_rows, tidied_stage}
-use Rattle.farkas_find.specs.Nexts.{IsChoice}
+use Rattle.farkas_find.specs.Inner.Nexts.{IsChoice}
 use Rattle.farkas_find.proofs.Chosen.{choice-is_choice, choice_of-Some}
 use Rattle.farkas_find.proofs.Gone.{IsGone-tidied}
 use Rattle.farkas_find.proofs.Paired.{pairs_for-are_pairs}

@@ -30,7 +30,7 @@ use Rattle.farkas_find.proofs.Chosen.{choice-is_choice, choice_in-is_choice}
 use Rattle.farkas_find.proofs.Staged.{rows_is}
 
 -- rounding loses nothing at whole numbers
-above_one : (g : ℕ) → nat_lt 1 g ≡ true → pos 0 <ℤ pos g
+pub above_one : (g : ℕ) → nat_lt 1 g ≡ true → pos 0 <ℤ pos g
 above_one g above = grind (arith, ints, nat_tests)
 
 pub holds-kept : (z : List ℤ) → KeptByRounding (IsAtLeastZero z)
@@ -125,7 +125,7 @@ drop-sound z width column rows (Ok (Rows left)) inside widths h =
     h.1.rows
 drop-sound z width column rows (Err fault) inside widths h = tt
 
-reached-holds : (z : List ℤ) (kept : Option ℕ) (width : ℕ) (given : List Numbered) → HaveWidth width given → Every (IsAtLeastZero z) given → (s : ℕ) (stage : Stage)
+pub reached-holds : (z : List ℤ) (kept : Option ℕ) (width : ℕ) (given : List Numbered) → HaveWidth width given → Every (IsAtLeastZero z) given → (s : ℕ) (stage : Stage)
     → IsReached (free_columns kept width) given s stage → HaveWidth width stage.rows × Every (IsAtLeastZero z) stage.rows
 reached-holds z kept width given widths all zero stage h =
     let P : Stage → Type 0 = λ stage. HaveWidth width stage.rows × Every (IsAtLeastZero z) stage.rows in

@@ -13,7 +13,7 @@ use Rattle.farkas_find.specs.Tidying.{coef_at, rounding_steps}
 use Rattle.farkas_find.specs.Combining.{HaveWidth, IsPair, is_positive, is_negative}
 use Rattle.farkas_find.specs.Choosing.{count_with, is_live, is_free, free_columns}
 use Rattle.farkas_find.specs.Stages.{HasFew, first_stage, tidied_rows, pairs_for, next_rows, rows_after, without_column, stage_after, Follows, IsReached}
-use Rattle.farkas_find.specs.Nexts.{IsChoice}
+use Rattle.farkas_find.specs.Inner.Nexts.{IsChoice}
 use Rattle.farkas_find.proofs.Rounded.{length-rounding_steps}
 use Rattle.farkas_find.proofs.Keeping.{length-next_rows}
 use Rattle.farkas_find.proofs.Paired.{pairs_for-are_pairs}

@@ -11,7 +11,7 @@ use Rattle.farkas_find.specs.Tidying.{coef_at, is_zero}
 use Rattle.farkas_find.specs.Combining.{HaveWidth}
 use Rattle.farkas_find.specs.Choosing.{free_columns}
 use Rattle.farkas_find.specs.Stages.{HasFew, tidied_rows, rows_with, without_column, stage_after, IsReached}
-use Rattle.farkas_find.specs.Nexts.{IsChoice}
+use Rattle.farkas_find.specs.Inner.Nexts.{IsChoice}
 use Rattle.farkas_find.specs.BackSubstitution.{IsInside}
 use Rattle.farkas_find.proofs.Chosen.{choice-is_choice}
 use Rattle.farkas_find.proofs.Widths.{HaveWidth-tidied}

@@ -12,7 +12,7 @@ use Rattle.std.proofs.lemmas.List.{get_or-take, get_or-drop, get_or_default, len
 use Rattle.std.proofs.lemmas.List.Folds.{Any-from_list_any, list_any_at}
 use Rattle.farkas_find.specs.declared.numbered.Numbered.{Numbered}
 use Rattle.farkas_find.specs.Tidying.{row_at, is_constant, is_at_least_as_strong, is_stronger, stays}
-use Rattle.farkas_find.specs.Winners.{coefs_at, konst_at, IsWinner, Finds, is_as_strong, is_found, IsInside}
+use Rattle.farkas_find.specs.Inner.Winners.{coefs_at, konst_at, IsWinner, Finds, is_as_strong, is_found, IsInside}
 use Rattle.farkas_find.proofs.Paired.{left_of_and, right_of_and}
 
 below_next : {P : Type 0} (k place : ℕ) → k < place + 1 → (k < place → P) → (k ≡ place → P) → P

@@ -1,12 +1,14 @@
 pub mod Tidying
 pub mod Combining
 pub mod Choosing
+pub mod Fewest
 pub mod Stages
-pub mod Nexts
 pub mod BackSubstitution
 pub mod Point
 pub mod Rows
 pub mod Answers
+pub mod Remaining
 pub mod Needed
 pub mod Verdict
-pub mod Winners
+pub mod OneAnswer
+pub mod Inner

@@ -4,11 +4,12 @@ ghost use Rattle.std.specs.Prelude.{◌≡◌, ◌<◌, ◌≤◌, ◌+◌, ◌^
 ghost use Rattle.farkas_find.specs.Combining.{HaveWidth};
 ghost use Rattle.farkas_find.specs.Choosing.{free_columns};
 ghost use Rattle.farkas_find.specs.Stages.{HasFew, tidied_stage};
-ghost use Rattle.farkas_find.specs.Nexts.{IsChoice, WithoutAnswers, ChosenAnswers, AdvanceAnswers};
+ghost use Rattle.farkas_find.specs.Inner.Nexts.{IsChoice, WithoutAnswers, ChosenAnswers, AdvanceAnswers};
 
 use crate::FindFault;
 use crate::choice::Choice;
 use crate::choose::choice_of;
+use crate::fault::of_memory;
 use crate::next::next_rows;
 use crate::stage::{AfterTidying, tidied};
 use crate::trail::{Eliminated, Ended, Finished, Stage};
@@ -43,10 +44,10 @@ impl Stage {
         let made = next_rows(alloc, number, choice, rows, self.next, &mut steps, width)?;
         let next = self.next + (steps.len() - before) as u32;
         let mut trail = self.trail;
-        trail.push(Eliminated {
+        of_memory(trail.push(Eliminated {
             column: choice.column,
             rows: List::from_vec(made.used),
-        })?;
+        }))?;
         Ok(Stage {
             rows: List::from_vec(made.rows),
             next,

@@ -11,6 +11,7 @@ ghost use Rattle.az_lin.specs.declared.fault.LinFault.TheVariants.{Memory as Out
 
 use crate::FindFault;
 use crate::bound::{Bound, bounds_at, factor_at, number_at, taken};
+use crate::fault::of_memory;
 use crate::found::{Found, multiplied, reduced};
 use crate::rounding::rounded;
 use crate::trail::Eliminated;
@@ -115,7 +116,7 @@ pub(crate) fn point(
     let Some(found) = found(alloc, width, trail)? else {
         return Ok(None);
     };
-    if !evaluate(alloc, &found, given)? {
+    if !of_memory(evaluate(alloc, &found, given))? {
         return Ok(None);
     }
     let Found { nums, den } = found;

@@ -6,6 +6,7 @@ ghost use Rattle.std.specs.Option.{option_map};
 ghost use Rattle.farkas_find.specs.Tidying.{coef_at};
 ghost use Rattle.farkas_find.specs.Combining.{HaveWidth, has_sign};
 ghost use Rattle.farkas_find.specs.Answers.{choice_in};
+ghost use Rattle.farkas_find.specs.Fewest.{HasFewest};
 ghost use Rattle.farkas_find.specs.Choosing.{negative_place, oriented, pair_at, pair_in, choice_by_pair, count_with, is_free, free_columns, column_by_count, choice_of, better_of, count_of_best};
 
 use crate::choice::{Choice, Pair};
@@ -149,7 +150,8 @@ fn better_of(best: Best, column: usize, rows: &[Numbered], width: usize) -> Best
 fn column_by_count(kept: Option<usize>, rows: &[Numbered], width: usize) -> Option<usize>
     requires widths { HaveWidth width rows.now }
     requires few { length rows.now ≤ 20000 }
-    ensures { result ≡ column_by_count (free_columns kept width) rows.now }
+    ensures value { result ≡ column_by_count (free_columns kept width) rows.now }
+    ensures fewest { HasFewest (free_columns kept width) rows.now result }
 {
     let mut best = Best {
         column: None,

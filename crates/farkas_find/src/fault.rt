@@ -1,6 +1,7 @@
 //! Why an elimination gives no result.
 
-ghost use Rattle.std.specs.Prelude.{◌≡◌};
+ghost use Rattle.std.specs.Prelude.{◌≡◌, Ok, IfErr, MatchResult};
+ghost use Rattle.az_lin.specs.declared.fault.LinFault.TheVariants as lin;
 ghost use Rattle.farkas_find.specs.declared.fault.FindFault.TheVariants.{Memory};
 
 use az_lin::{Limit, LinFault};
@@ -32,11 +33,14 @@ impl<T: Drop> From<AllocFailed<T>> for FindFault {
     }
 }
 
-/// For calls of az_lin whose one fault is want of memory.
-impl From<LinFault> for FindFault {
-    ghost from_gives = { λ _ e. e ≡ Memory };
-
-    fn from(_: LinFault) -> Self {
-        FindFault::Memory
+/// An answer of az_lin whose one fault is want of memory.
+pub(crate) fn of_memory<T>(answer: Result<T, LinFault>) -> Result<T, FindFault>
+    requires { IfErr answer (λ fault. fault ≡ lin.Memory) }
+    ensures { MatchResult result (λ value. answer ≡ Ok value) (λ fault. fault ≡ Memory) }
+{
+    match answer {
+        Ok(value) => Ok(value),
+        Err(LinFault::Memory) => Err(FindFault::Memory),
+        Err(_) => unreachable!(),
     }
 }

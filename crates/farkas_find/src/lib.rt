@@ -29,13 +29,9 @@ mod run;
 mod single;
 mod stage;
 mod stored;
-#[cfg(test)]
-mod tests;
 mod trail;
 mod value;
 mod verdict;
-#[cfg(test)]
-mod verdict_tests;
 mod wide;
 mod winners;
 mod within;

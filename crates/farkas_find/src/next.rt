@@ -3,11 +3,12 @@
 ghost use Rattle.std.specs.Prelude.{◌≡◌, ◌<◌, ◌≤◌, ◌+◌, ◌^◌, ◌++◌, length, map, IfOk, OnOk};
 ghost use Rattle.farkas_find.specs.Combining.{HaveWidth, step_at};
 ghost use Rattle.farkas_find.specs.Stages.{HasFew, pairs_for, rows_with};
-ghost use Rattle.farkas_find.specs.Nexts.{IsChoice, NextAnswers};
+ghost use Rattle.farkas_find.specs.Inner.Nexts.{IsChoice, NextAnswers};
 
 use crate::FindFault;
 use crate::choice::Choice;
 use crate::counting::count_without;
+use crate::fault::of_memory;
 use crate::made::made;
 use crate::numbered::Numbered;
 use crate::parting::part;
@@ -48,7 +49,7 @@ pub(crate) fn next_rows(
         return Err(FindFault::Limit(Limit::Rows));
     };
     let column = choice.column;
-    let Some(mut made) = made(
+    let Some(mut made) = of_memory(made(
         alloc,
         column,
         rows.as_slice(),
@@ -56,7 +57,7 @@ pub(crate) fn next_rows(
         next,
         steps,
         width,
-    )?
+    ))?
     else {
         return Err(FindFault::Overflow(stage));
     };

@@ -5,7 +5,7 @@ ghost use Rattle.farkas_find.specs.Combining.{HaveWidth};
 ghost use Rattle.farkas_find.specs.Choosing.{free_columns};
 ghost use Rattle.farkas_find.specs.Stages.{HasFew};
 ghost use Rattle.farkas_find.specs.Answers.{RangeAnswers};
-ghost use Rattle.farkas_find.specs.Nexts.{EndAnswers};
+ghost use Rattle.farkas_find.specs.Inner.Nexts.{EndAnswers};
 
 use crate::numbered::Numbered;
 use crate::run::run_stages;

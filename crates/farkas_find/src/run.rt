@@ -4,7 +4,7 @@ ghost use Rattle.std.specs.Prelude.{◌≡◌, ◌≤◌, ◌<◌};
 ghost use Rattle.farkas_find.specs.Combining.{HaveWidth};
 ghost use Rattle.farkas_find.specs.Choosing.{free_columns};
 ghost use Rattle.farkas_find.specs.Stages.{HasFew};
-ghost use Rattle.farkas_find.specs.Nexts.{RunAnswers};
+ghost use Rattle.farkas_find.specs.Inner.Nexts.{RunAnswers};
 
 use crate::FindFault;
 use crate::advance::Advanced;

@@ -4,7 +4,7 @@ ghost use Rattle.std.specs.Prelude.{◌≡◌, ◌<◌, ◌+◌, ◌^◌};
 ghost use Rattle.farkas_find.specs.Combining.{HaveWidth};
 ghost use Rattle.farkas_find.specs.Stages.{HasFew};
 ghost use Rattle.farkas_find.specs.Answers.{TidyAnswers, DropAnswers};
-ghost use Rattle.farkas_find.specs.Nexts.{DroppedAnswers};
+ghost use Rattle.farkas_find.specs.Inner.Nexts.{DroppedAnswers};
 
 use crate::choose::choice_in;
 use crate::next::next_rows;

@@ -4,10 +4,11 @@ ghost use Rattle.std.specs.Prelude.{◌≡◌, ◌≤◌, length, IfOk, OnOk, If
 ghost use Rattle.az_lin.specs.Combination.{HasWideEntries};
 ghost use Rattle.farkas_find.specs.Combining.{numbered_from};
 ghost use Rattle.farkas_find.specs.Stages.{given_rows};
-ghost use Rattle.farkas_find.specs.Nexts.{GivenAnswers};
+ghost use Rattle.farkas_find.specs.Inner.Nexts.{GivenAnswers};
 ghost use Rattle.farkas_find.specs.declared.fault.FindFault.TheVariants.{Memory};
 
 use crate::FindFault;
+use crate::fault::of_memory;
 use crate::next::MOST_ROWS;
 use crate::numbered::Numbered;
 use az_lin::{ExactRow, Limit, Row};
@@ -19,7 +20,7 @@ fn exact(alloc: Global, row: &Row) -> Result<ExactRow, FindFault>
     ensures range { OnOk result (HasWideEntries row.now) }
     ensures cause { IfErr result (λ fault. fault ≡ Memory) }
 {
-    Ok(ExactRow::new(alloc, row.coefs(), row.konst())?)
+    of_memory(ExactRow::from_row(alloc, row))
 }
 
 fn numbered(alloc: Global, rows: &[Row]) -> Result<Vec<Numbered>, FindFault>

@@ -2,6 +2,7 @@
 
 ghost use Rattle.std.specs.Prelude.{◌≡◌, ◌≤◌, All, IfOk};
 ghost use Rattle.az_lin.specs.Affine.{HasWidth};
+ghost use Rattle.farkas_find.specs.OneAnswer.{Verdict, Agrees};
 ghost use Rattle.farkas_find.specs.Verdict.{Decides, ExcludesOther, IsSmallSystem, IsNoOverflow};
 
 use crate::FindFault;
@@ -47,6 +48,7 @@ fn judge(alloc: Global, system: &Conj) -> Result<Decision, FindFault>
 pub fn decide(alloc: Global, system: &Conj) -> Result<Decision, FindFault>
     requires narrow { system.now.width ≤ 4096 }
     ensures answer { Decides system.now result }
+    ensures only { (other : Verdict) → Decides system.now other → Agrees result other }
     ensures one { IfOk result (ExcludesOther system.now) }
     ensures small { IsSmallSystem system.now → IsNoOverflow result }
 {

@@ -4,10 +4,11 @@ ghost use Rattle.std.specs.Prelude.{◌≡◌, ◌≤◌, All, length, map, IfOk
 ghost use Rattle.farkas_find.specs.Combining.{numbered_from};
 ghost use Rattle.farkas_find.specs.Rows.{affine_of, HasWideRow};
 ghost use Rattle.farkas_find.specs.Stages.{given_rows};
-ghost use Rattle.farkas_find.specs.Nexts.{GivenAnswers};
+ghost use Rattle.farkas_find.specs.Inner.Nexts.{GivenAnswers};
 ghost use Rattle.farkas_find.specs.declared.fault.FindFault.TheVariants.{Memory};
 
 use crate::FindFault;
+use crate::fault::of_memory;
 use crate::next::MOST_ROWS;
 use crate::numbered::Numbered;
 use az_lin::{ExactRow, Limit, List};
@@ -30,7 +31,7 @@ fn numbered(alloc: Global, rows: &[WideRow]) -> Result<Vec<Numbered>, FindFault>
     let mut numbered = Vec::with_capacity(alloc, rows.len())?;
     'rows: for place in 0..rows.len() {
         let given = &rows[place];
-        let row = ExactRow::new(alloc, given.coefs.as_slice(), given.konst)?;
+        let row = of_memory(ExactRow::new(alloc, given.coefs.as_slice(), given.konst))?;
         numbered.push(Numbered {
             row,
             number: place as u32,

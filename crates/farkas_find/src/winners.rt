@@ -3,7 +3,7 @@
 ghost use Rattle.std.specs.Prelude.{◌≡◌, ◌<◌, ◌+◌, ◌&&◌, not, length, map, IfOk, OnOk};
 ghost use Rattle.std.specs.List.{range_with_len};
 ghost use Rattle.farkas_find.specs.Tidying.{stays};
-ghost use Rattle.farkas_find.specs.Winners.{AreWinners, IsInside, konst_at, is_as_strong, is_found};
+ghost use Rattle.farkas_find.specs.Inner.Winners.{AreWinners, IsInside, konst_at, is_as_strong, is_found};
 
 use crate::duplicates::is_constant;
 use crate::numbered::{Numbered, at};

@@ -3,7 +3,7 @@
 ghost use Rattle.std.specs.Prelude.{◌≡◌, ◌<◌, IfOk};
 ghost use Rattle.farkas_find.specs.Combining.{HaveWidth, all_pairs, pairs_with};
 ghost use Rattle.farkas_find.specs.Stages.{HasFew, pairs_for};
-ghost use Rattle.farkas_find.specs.Nexts.{IsWithin};
+ghost use Rattle.farkas_find.specs.Inner.Nexts.{IsWithin};
 
 use crate::choice::{Choice, Pair};
 use crate::counting::count_all_pairs;

@@ -9,7 +9,11 @@ pub mod Fresh
 pub mod Recursive
 pub mod Whole
 pub mod Tokens
-pub mod SumRules
 pub mod Turns
 pub mod ReadBy
 pub mod Yields
+pub mod TextReadings
+pub mod Within
+pub mod Wider
+pub mod SideRules
+pub mod LineLaws

@@ -1,6 +1,9 @@
 -- How a loop over members goes: what is left to read gives the same answer.
-use Rattle.std.proofs.Common.{◌≡◌, ℕ, zero, suc, ◌<◌, ◌≤◌, Bool, true, false, if◌then◌else◌, List, [], ◌∷◌, ◌++◌, length, arith, refl, ◌∙◌, ap, subst, length-append}
+use Rattle.std.proofs.Common.{◌≡◌, ℕ, zero, suc, ◌-◌, ◌<◌, ◌≤◌, ◌⊎◌, inl, inr, Err, Bool, true, false, if◌then◌else◌, List, [], ◌∷◌, ◌++◌, length, arith, refl, ◌∙◌, ap, subst, length-append}
+use Rattle.grammar_rules.specs.Gives.{Gives}
 use Rattle.grammar_rules.specs.Rules.{Rule}
+use Rattle.grammar_rules.specs.declared.fault.ReadError.{ReadError}
+use Rattle.grammar_rules.specs.declared.fault.ReadError.TheVariants.{Syntax, Size, Memory}
 use Rattle.grammar_rules.specs.Readers.{Answer, Reader, after, sees, read_turns, read_onto}
 use Rattle.grammar_rules.specs.Readers.Answer.{got, wrong, large}
 use Rattle.grammar_rules.specs.Exactness.{Shape, Exact, Says, BeginsIn}
@@ -75,3 +78,24 @@ pub onto_large : {T A B : Type 0} (class : T → ℕ) (set : List ℕ) (step : A
 onto_large class set step reader a b [] seen is = absurd (cc)
 onto_large class set step reader a b (t ∷ ts) seen is =
     onto_goes class set step reader a b (t ∷ ts) seen (length ts) refl ∙ ap (λ answer. after answer (λ y. read_turns class set step reader (length ts) (step a y))) is
+
+-- The turns of a loop that counts them: one more member, none more, and a fault.
+pub turn_taken : {T A B : Type 0} (class : T → ℕ) (set : List ℕ) (step : A → B → A) (reader : Reader T B) (turns : ℕ) (a : A) (b : ℕ) (ts : List T) (x : B) (rest : List T) (remaining : ℕ)
+    → 0 < turns → sees class set ts ≡ true → reader b ts ≡ got x rest remaining → read_turns class set step reader turns a b ts ≡ read_turns class set step reader (turns - 1) (step a x) remaining rest
+turn_taken class set step reader zero a b ts x rest remaining some seen is = absurd (omega arith)
+turn_taken class set step reader (suc n) a b ts x rest remaining some seen is =
+    let less : n ≡ suc n - 1 = omega arith in
+    rw seen (rw is (ap (λ (k : ℕ). read_turns class set step reader k (step a x) remaining rest) less))
+
+pub turns_end : {T A B : Type 0} (class : T → ℕ) (set : List ℕ) (step : A → B → A) (reader : Reader T B) (turns : ℕ) (a : A) (b : ℕ) (ts : List T)
+    → (turns ≡ 0) ⊎ (sees class set ts ≡ false) → read_turns class set step reader turns a b ts ≡ got a ts b
+turns_end class set step reader zero a b ts over = refl
+turns_end class set step reader (suc n) a b ts (inl none) = absurd (omega arith)
+turns_end class set step reader (suc n) a b ts (inr unseen) = rw unseen refl
+
+pub turn_fails : {T A B : Type 0} (class : T → ℕ) (set : List ℕ) (step : A → B → A) (reader : Reader T B) (turns : ℕ) (a : A) (b : ℕ) (ts : List T) (fault : ReadError)
+    → 0 < turns → sees class set ts ≡ true → Gives {A = B} (Err fault) (reader b ts) → Gives {A = A} (Err fault) (read_turns class set step reader turns a b ts)
+turn_fails class set step reader zero a b ts fault some seen is = absurd (omega arith)
+turn_fails class set step reader (suc n) a b ts (Syntax k) some seen is = rw seen (rw is refl)
+turn_fails class set step reader (suc n) a b ts Size some seen is = rw seen (rw is refl)
+turn_fails class set step reader (suc n) a b ts Memory some seen is = tt

@@ -4,4 +4,8 @@ pub mod Exactness
 pub mod Whole
 pub mod Tokens
 pub mod Gives
-pub mod Sums
+pub mod TextReadings
+pub mod TokenRules
+pub mod Sides
+pub mod SideReaders
+pub mod Lines

@@ -22,12 +22,12 @@ pub record IsSentence {T A : Type 0} (rule : Rule T A) (limit : ℕ) (ts : List 
   pub taken : (w : ℕ) × (w ≤ limit) × rule.takes ts w a
   pub alone : (w : ℕ) (b : A) → rule.takes ts w b → b ≡ a
 
--- The tokens before the place are a front within the limit, and those up to and including the token there
--- are none. If no token is there, all tokens are a front. Either way they are no sentence.
+-- The tokens before the place are a front within the limit, and no front of the tokens is longer: with the
+-- token at the place they are none. None weighs more than the limit, and they are no sentence.
 pub record IsMisplaced {T A : Type 0} (rule : Rule T A) (limit : ℕ) (ts before rest : List T) : Type 0 where
   pub split : ts ≡ before ++ rest
   pub front : (w : ℕ) × (w ≤ limit) × rule.front before w
-  pub furthest : (t : T) (later : List T) (w : ℕ) → rest ≡ t ∷ later → rule.front (before ++ (t ∷ [])) w → ⊥
+  pub furthest : (us later : List T) (w : ℕ) → ts ≡ us ++ later → rule.front us w → (length us ≤ length before) × (w ≤ limit)
   pub no_sentence : (w : ℕ) (a : A) → rule.takes ts w a → ⊥
 
 -- A front of the tokens weighs more than the limit, and they are no sentence within it.

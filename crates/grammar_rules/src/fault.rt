@@ -1,8 +1,9 @@
-//! Why a reader has no value.
+//! Why a reader has no value, and why a text has none.
 
 ghost use Rattle.std.specs.Prelude.{◌≡◌};
 ghost use Rattle.grammar_rules.specs.declared.fault.ReadError.TheVariants.{Memory};
 
+use az_text::LexFault;
 use std::alloc::{AllocError, AllocFailed};
 
 #[derive(Debug, Drop)]
@@ -30,4 +31,18 @@ impl<T: Drop> From<AllocFailed<T>> for ReadError {
     fn from(_: AllocFailed<T>) -> Self {
         ReadError::Memory
     }
+}
+
+/// Why a text is no sentence of a grammar.
+#[derive(Debug, Drop)]
+pub enum TextFault {
+    /// The first fault of the tokens.
+    Lex(LexFault),
+    /// The first byte of the first token that can't go on, or the text's length where more would have
+    /// to follow.
+    Syntax(usize),
+    /// The limit of weight is exceeded.
+    Size,
+    /// Memory ran out.
+    Memory,
 }

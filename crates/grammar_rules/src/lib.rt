@@ -1,22 +1,31 @@
-//! A small theory of grammar rules, and the cursor that readers move over tokens.
+//! A small theory of grammar rules over any items, and the cursor that readers move over them; for the items
+//! that are tokens, what readers of programs and scripts share.
 //!
 //! `specs/Rules.antt` has the ways of building a rule, with what it takes and its fronts,
 //! `specs/Readers.antt` the readers as functions on lists, and `specs/Exactness.antt` what it means
 //! that a reader follows a rule exactly. The laws in `proofs/` prove that once for each way.
 #![tactic(auto)]
 
+pub mod classes;
 mod cursor;
 mod ending;
 mod fault;
-mod laws;
+mod line;
 mod look_ahead;
-mod sums;
-#[cfg(test)]
-mod tests;
+mod marks;
+mod name_lists;
+mod repetition;
+mod sides;
+mod term;
+mod text;
 mod words;
 
-pub use cursor::Cursor;
+pub use cursor::{Cursor, TokenCursor};
 pub use ending::finish;
-pub use fault::ReadError;
-pub use laws::lines_are_read;
-pub use sums::{Sign, read_sum};
+pub use fault::{ReadError, TextFault};
+pub use line::{Line, Lines, behind, cut_lines, lines_are_one};
+pub use name_lists::{indices, name, names};
+pub use repetition::members;
+pub use sides::{affine, rows_in_brackets, sign};
+pub use term::Term;
+pub use text::placed;

@@ -1,25 +1,25 @@
 //! What the next token is.
 
 ghost use Rattle.std.specs.Prelude.{◌≡◌, ◌+◌, ◌<◌, ◌^◌, length, map};
-ghost use Rattle.grammar_rules.specs.Gives.{Gives};
+ghost use Rattle.grammar_rules.specs.Gives.{GivesAlways};
 ghost use Rattle.grammar_rules.specs.Readers.{has, read_token, sees};
 ghost use Rattle.grammar_rules.specs.Tokens.{chosen, chosen_of, class_of};
 
-use crate::cursor::mark_number;
+use crate::classes::{FIRST_WORD, NUMBER, QUOTED, mark_class};
 use crate::words::class_from;
-use crate::{Cursor, ReadError};
+use crate::{ReadError, TokenCursor};
 use az_text::{Token, TokenKind};
 
 /// The number of a token's class.
-fn class_of(reserved: &[&str], token: &Token) -> u32
+fn class_of(reserved: &[&str], token: &Token<'_>) -> u32
     requires { 26 + length reserved.now < 2 ^ 32 }
     ensures { result ≡ class_of (map (λ one. one.now) reserved.now) token.now }
 {
     match &token.kind {
-        TokenKind::Word(word) => class_from(reserved, 26, word.as_str()),
-        TokenKind::Number(_) => 23,
-        TokenKind::Quoted(_) => 24,
-        TokenKind::Mark(mark) => u32::from(mark_number(*mark)),
+        TokenKind::Word(word) => class_from(reserved, FIRST_WORD, word.as_str()),
+        TokenKind::Number(_) => NUMBER,
+        TokenKind::Quoted(_) => QUOTED,
+        TokenKind::Mark(mark) => mark_class(*mark),
     }
 }
 
@@ -47,16 +47,16 @@ fn chosen<A: Copy>(table: &[(u32, A)], class: u32) -> Option<A>
     }
 }
 
-impl<'a> Cursor<'a> {
+impl<'a> TokenCursor<'a> {
     /// A token whose class is in the table, with the value there.
     pub fn one_of<A: Copy + Drop>(
         self,
         reserved: &[&str],
         table: &[(u32, A)],
         weight: u32,
-    ) -> Result<(A, Cursor<'a>), ReadError>
+    ) -> Result<(A, TokenCursor<'a>), ReadError>
         requires { 26 + length reserved.now < 2 ^ 32 }
-        ensures { Gives result (read_token (chosen_of (map (λ one. one.now) reserved.now) table.now) weight self.entry.budget self.entry.rest.now) }
+        ensures { GivesAlways result (read_token (chosen_of (map (λ one. one.now) reserved.now) table.now) weight self.entry.budget self.entry.rest.now) }
     {
         let Some((token, rest)) = self.rest.split_first() else {
             return Err(self.misplaced());

@@ -10,7 +10,6 @@ use Rattle.grammar_rules.proofs.Choice.{choice_exact}
 use Rattle.grammar_rules.proofs.Many.{list_of_exact}
 use Rattle.grammar_rules.proofs.Sequence.{sequence_exact}
 use Rattle.grammar_rules.proofs.Token.{nothing_exact}
-use Rattle.grammar_rules.proofs.Turns.{Advances, exact_advances}
 use Rattle.program_grammar.specs.Words.{class, relations, mark}
 use Rattle.program_grammar.specs.Values as value
 use Rattle.program_grammar.specs.Values.{behind, before, pair}
@@ -110,16 +109,3 @@ output_exact depth = choice_exact (28 ∷ []) (sequence_exact behind (keyword_ex
 
 pub local_exact : (depth : ℕ) → Follows (section_shape 29) depth (section (codes "local")) (read_section 29 (codes "local"))
 local_exact depth = choice_exact (29 ∷ []) (sequence_exact behind (keyword_exact (codes "local") 0 depth) (declarations_exact depth) refl) (nothing_exact class [] depth) refl refl refl
-
--- what the loops need: each member takes a token
-pub link_advances : Advances read_link
-link_advances = exact_advances (link_exact 0) refl
-
-pub next_chain_advances : Advances read_next_chain
-next_chain_advances = exact_advances (next_chain_exact 0) refl
-
-pub next_rows_advances : Advances read_next_rows
-next_rows_advances = exact_advances (next_rows_exact 0) refl
-
-pub declaration_advances : Advances read_declaration
-declaration_advances = exact_advances (declaration_exact 0) refl

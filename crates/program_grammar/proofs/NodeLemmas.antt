@@ -7,7 +7,7 @@ use Rattle.program_grammar.specs.declared.tree.Expr.{Expr}
 use Rattle.program_grammar.specs.declared.tree.Expr.TheVariants.{Constant, Index, Access, Negation, Binary, Cases, Reduction}
 use Rattle.program_grammar.specs.declared.tree.Expr.TheFolds.{the_lemmas}
 use Rattle.program_grammar.specs.declared.tree.Operator.{Operator}
-use Rattle.program_grammar.specs.declared.tree.Term.{Term}
+use Rattle.grammar_rules.specs.declared.term.Term.{Term}
 use Rattle.program_grammar.specs.Nodes.{nodes, nodes_of_bodies}
 
 pub nodes-Constant : (negative : Bool) (n : ℕ) → nodes (Constant negative n) ≡ 1

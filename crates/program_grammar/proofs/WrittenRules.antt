@@ -1,6 +1,6 @@
 -- What is read is written.
-use Rattle.std.proofs.Common.{◌≡◌, ℕ, suc, ◌<◌, Bool, true, false, List, [], ◌∷◌, Some, None, Ok, refl, subst, ◌∙◌, ap, arith}
-use Rattle.std.specs.Prelude.{◌==◌, if◌then◌else◌, ◌||◌, bytes_eq}
+use Rattle.std.proofs.Common.{◌≡◌, ℕ, suc, ◌<◌, Bool, true, false, List, [], ◌∷◌, Some, None, Ok, Err, refl, subst, ◌∙◌, ap, arith}
+use Rattle.std.specs.Prelude.{◌==◌, if◌then◌else◌, ◌||◌, bytes_eq, Result, IfOk}
 use Rattle.std.specs.List.{list_any, AllByRecursion}
 use Rattle.std.proofs.lemmas.List.Elements.{All-from_recursion}
 use Rattle.az_text.specs.declared.token.Token.{Token}
@@ -11,12 +11,14 @@ use Rattle.az_text.proofs.WordTokens.{IsSpelledKind, IsSpelled, all_spelled}
 use Rattle.grammar_rules.specs.Rules.{Rule, sequence}
 use Rattle.grammar_rules.specs.Tokens.{name_class, word_class, kind_name}
 use Rattle.grammar_rules.specs.Whole.{IsSentence}
+use Rattle.grammar_rules.specs.declared.fault.TextFault.{TextFault}
 use Rattle.grammar_rules.proofs.Yields.{Yields, any_yields, weaker_yields, token_yields, give_yields, mapped_yields, followed_yields, sequence_yields, choice_yields, many_yields, left_yields, list_of_yields, fresh_yields, recursive_yields}
 use Rattle.program_grammar.specs.declared.tree.Declaration.{Declaration}
 use Rattle.program_grammar.specs.declared.tree.Equation.{Equation}
 use Rattle.program_grammar.specs.declared.tree.Expr.{Expr}
 use Rattle.program_grammar.specs.declared.tree.Operator.TheVariants.{Multiply}
 use Rattle.program_grammar.specs.declared.tree.ProgramText.{ProgramText}
+use Rattle.program_grammar.specs.Readings.{IsReadingOf}
 use Rattle.program_grammar.specs.Grammar.{names, domain, access, index, call, branch, cases, reduction, operand, primary, negated, unary, product, sum, expr_body, expr, declaration, section, equation_body, equation, equations, sections, header, program}
 use Rattle.program_grammar.specs.Values as value
 use Rattle.program_grammar.specs.Words.{reserved, name}
@@ -166,3 +168,7 @@ program_writes =
 
 pub read_is_written : (text : List ℕ) (tokens : List Token) (read : ProgramText) → Reads 0 text (Ok tokens) → IsSentence program 0 tokens read → IsWritten read
 read_is_written text tokens read reads sentence = program_writes.value tokens sentence.taken.0 read sentence.taken.2 (all_spelled text tokens reads)
+
+pub reading_is_written : (text : List ℕ) (result : Result ProgramText TextFault) → IsReadingOf text result → IfOk result IsWritten
+reading_is_written text (Ok read) is = read_is_written text is.0 read is.1 is.2
+reading_is_written text (Err fault) is = tt

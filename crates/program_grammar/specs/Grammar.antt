@@ -6,6 +6,7 @@
 use Rattle.std.specs.Prelude.{ℕ, if◌then◌else◌, nat_le, List, [], true, false, codes}
 use Rattle.az_text.specs.declared.mark.MarkKind.TheVariants.{OpenBrace, CloseBrace, OpenBracket, CloseBracket, OpenParen, CloseParen, Bar, BarBar, Comma, Colon, Semicolon, Dot, Equal, AndAnd, Minus, Star}
 use Rattle.az_text.specs.declared.token.Token.{Token}
+use Rattle.grammar_rules.specs.Sides as sides
 use Rattle.grammar_rules.specs.Rules.{Rule, give, mapped_to, sequence, followed, choice, optional, many, left, list_of, fresh, recursive}
 use Rattle.program_grammar.specs.declared.tree.Branch.{Branch}
 use Rattle.program_grammar.specs.declared.tree.Chain.{Chain}
@@ -15,37 +16,27 @@ use Rattle.program_grammar.specs.declared.tree.Expr.{Expr}
 use Rattle.program_grammar.specs.declared.tree.Expr.TheVariants as form
 use Rattle.program_grammar.specs.declared.tree.Link.{Link}
 use Rattle.program_grammar.specs.declared.tree.ProgramText.{ProgramText}
-use Rattle.program_grammar.specs.declared.tree.Term.{Term}
+use Rattle.grammar_rules.specs.declared.term.Term.{Term}
 use Rattle.program_grammar.specs.Nodes.{nodes}
 use Rattle.program_grammar.specs.Values as value
 use Rattle.program_grammar.specs.Values.{behind, before, pair, Scaled}
-use Rattle.program_grammar.specs.Words.{signs, relations, functions, folds, mark, keyword, name, number, one_of}
+use Rattle.program_grammar.specs.Words.{reserved, signs, relations, functions, folds, mark, keyword, name, number, one_of}
 
--- what stands between marks, or one by one with marks between
-abbrev pub comma_list : {A : Type 0} → Rule Token A → Rule Token (List A)
-comma_list p = choice (list_of p (sequence behind (mark Comma 0) p)) (give [])
-
+-- names and affine sides
 abbrev pub names : Rule Token (List (List ℕ))
-names = comma_list (name 0)
+names = sides.names reserved
 
 abbrev pub indices : Rule Token (List (List ℕ))
-indices = sequence behind (mark OpenBracket 0) (sequence before names (mark CloseBracket 0))
+indices = sides.indices reserved
 
--- affine sides
 abbrev pub scaled : Rule Token Scaled
-scaled = choice (sequence pair (number 0) (optional (choice (sequence behind (mark Star 0) (name 0)) (name 0)))) (mapped_to value.once (name 0))
-
-abbrev pub signed_term : Rule Token Term
-signed_term = sequence value.signed (one_of signs 0) scaled
-
-abbrev pub first_term : Rule Token Term
-first_term = choice signed_term (mapped_to (value.signed false) scaled)
+scaled = sides.scaled reserved
 
 abbrev pub affine : Rule Token (List Term)
-affine = list_of first_term signed_term
+affine = sides.affine reserved
 
 abbrev pub rows_in_brackets : Rule Token (List (List Term))
-rows_in_brackets = sequence behind (mark OpenBracket 0) (sequence before (comma_list affine) (mark CloseBracket 0))
+rows_in_brackets = sides.rows_in_brackets reserved
 
 -- domains
 abbrev pub link : Rule Token Link

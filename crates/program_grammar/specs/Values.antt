@@ -1,4 +1,5 @@
 -- The values that the rules put together.
+pub use Rattle.grammar_rules.specs.Sides.{behind, before, pair, Scaled, once, signed}
 use Rattle.std.specs.Prelude.{ℕ, Bool, false, if◌then◌else◌, List, [], ◌∷◌, Option, Some, None}
 use Rattle.program_grammar.specs.declared.tree.Branch.{Branch}
 use Rattle.program_grammar.specs.declared.tree.Chain.{Chain}
@@ -11,27 +12,7 @@ use Rattle.program_grammar.specs.declared.tree.Operator.{Operator}
 use Rattle.program_grammar.specs.declared.tree.Operator.TheVariants.{Add, Subtract, Multiply}
 use Rattle.program_grammar.specs.declared.tree.ProgramText.{ProgramText}
 use Rattle.program_grammar.specs.declared.tree.Relation.{Relation}
-use Rattle.program_grammar.specs.declared.tree.Term.{Term}
-
--- of a sequence, what stands behind a mark or before it
-abbrev pub behind : {A B : Type 0} → A → B → B
-behind a b = b
-
-abbrev pub before : {A B : Type 0} → A → B → A
-before a b = a
-
-abbrev pub pair : {A B : Type 0} → A → B → A × B
-pair a b = (a, b)
-
--- a factor and the name behind it
-abbrev pub Scaled : Type 0
-Scaled = ℕ × Option (List ℕ)
-
-abbrev pub once : List ℕ → Scaled
-once name = (1, Some name)
-
-abbrev pub signed : Bool → Scaled → Term
-signed negative part = record { negative = negative; factor = part.0; name = part.1 }
+use Rattle.grammar_rules.specs.declared.term.Term.{Term}
 
 abbrev pub linked : Relation → List Term → Link
 linked relation side = record { relation = relation; side = side }

@@ -1,11 +1,12 @@
 -- The words that are no names, and the tokens that have a value in programs.
-use Rattle.std.specs.Prelude.{ℕ, Bool, true, false, List, [], ◌∷◌, codes}
-use Rattle.az_text.specs.declared.mark.MarkKind.{MarkKind}
-use Rattle.az_text.specs.declared.mark.MarkKind.TheVariants.{Equal, EqualEqual, LessEqual, Less, GreaterEqual, Greater, Plus, Minus, Star}
+use Rattle.std.specs.Prelude.{ℕ, List, [], ◌∷◌, codes}
+use Rattle.az_text.specs.declared.mark.MarkKind.TheVariants.{Equal, EqualEqual, LessEqual, Less, GreaterEqual, Greater, Plus, Star}
 use Rattle.az_text.specs.declared.token.Token.{Token}
-use Rattle.grammar_rules.specs.Rules.{Rule, token}
-use Rattle.grammar_rules.specs.Readers.{Reader, read_token}
-use Rattle.grammar_rules.specs.Tokens.{mark_class, class_of, keyword_class, mark_of, number_of, name_of, keyword_of, chosen_of}
+pub use Rattle.grammar_rules.specs.TokenRules.{mark, keyword, number, signs, read_mark, read_keyword, read_number}
+use Rattle.grammar_rules.specs.Rules.{Rule}
+use Rattle.grammar_rules.specs.Readers.{Reader}
+use Rattle.grammar_rules.specs.TokenRules as tokens
+use Rattle.grammar_rules.specs.Tokens.{mark_class, class_of, keyword_class}
 use Rattle.program_grammar.specs.declared.tree.Relation.{Relation}
 use Rattle.program_grammar.specs.declared.tree.Relation.TheVariants as relation
 use Rattle.program_grammar.specs.declared.tree.Operator.{Operator}
@@ -18,10 +19,6 @@ reserved =
 
 abbrev pub class : Token → ℕ
 class = class_of reserved
-
--- whether a sign is a minus
-abbrev pub signs : List (ℕ × Bool)
-signs = (mark_class Plus, false) ∷ (mark_class Minus, true) ∷ []
 
 abbrev pub relations : List (ℕ × Relation)
 relations =
@@ -38,34 +35,43 @@ functions =
 abbrev pub folds : List (ℕ × Operator)
 folds = (mark_class Plus, operator.Add) ∷ (mark_class Star, operator.Multiply) ∷ functions
 
--- the rules of single tokens, with their weights
-abbrev pub mark : MarkKind → ℕ → Rule Token (Unit {0})
-mark kind weight = token (mark_of kind) weight
-
-abbrev pub keyword : List ℕ → ℕ → Rule Token (Unit {0})
-keyword word weight = token (keyword_of word) weight
-
+-- the rules of names, and of tokens of a table, with their weights
 abbrev pub name : ℕ → Rule Token (List ℕ)
-name weight = token (name_of reserved) weight
-
-abbrev pub number : ℕ → Rule Token ℕ
-number weight = token number_of weight
+name weight = tokens.name reserved weight
 
 abbrev pub one_of : {A : Type 0} → List (ℕ × A) → ℕ → Rule Token A
-one_of table weight = token (chosen_of reserved table) weight
+one_of table weight = tokens.one_of reserved table weight
 
 -- and their readers
-abbrev pub read_mark : MarkKind → ℕ → Reader Token (Unit {0})
-read_mark kind weight = read_token (mark_of kind) weight
-
-abbrev pub read_keyword : List ℕ → ℕ → Reader Token (Unit {0})
-read_keyword word weight = read_token (keyword_of word) weight
-
 abbrev pub read_name : ℕ → Reader Token (List ℕ)
-read_name weight = read_token (name_of reserved) weight
-
-abbrev pub read_number : ℕ → Reader Token ℕ
-read_number weight = read_token number_of weight
+read_name weight = tokens.read_name reserved weight
 
 abbrev pub read_one_of : {A : Type 0} → List (ℕ × A) → ℕ → Reader Token A
-read_one_of table weight = read_token (chosen_of reserved table) weight
+read_one_of table weight = tokens.read_one_of reserved table weight
+
+-- the classes of some reserved words, by their places
+abbrev pub input_class : ℕ
+input_class = 27
+
+abbrev pub output_class : ℕ
+output_class = 28
+
+abbrev pub local_class : ℕ
+local_class = 29
+
+abbrev pub int_class : ℕ
+int_class = 31
+
+abbrev pub long_class : ℕ
+long_class = 32
+
+abbrev pub case_class : ℕ
+case_class = 33
+
+-- max, min, and, or, xor
+abbrev pub function_classes : List ℕ
+function_classes = 36 ∷ 37 ∷ 38 ∷ 39 ∷ 40 ∷ []
+
+-- the marks with which a link of a chain begins
+abbrev pub relation_classes : List ℕ
+relation_classes = mark_class Equal ∷ mark_class EqualEqual ∷ mark_class LessEqual ∷ mark_class Less ∷ mark_class GreaterEqual ∷ mark_class Greater ∷ []

@@ -7,26 +7,30 @@ ghost use Rattle.program_grammar.specs.Readers.{read_width_word, read_declaratio
 
 use crate::Declaration;
 use crate::domains::domain;
-use crate::words::{name, sees};
+use crate::words::{INT, LONG, list, name, sees};
 use az_lin::List;
 use az_text::MarkKind;
-use grammar_rules::{Cursor, ReadError};
+use grammar_rules::classes::NAME;
+use grammar_rules::{ReadError, TokenCursor};
 use std::alloc::Global;
 
 /// Past `int` or `long`, if one is there.
-fn width_word(cursor: Cursor<'_>) -> Result<Cursor<'_>, ReadError>
+fn width_word(cursor: TokenCursor<'_>) -> Result<TokenCursor<'_>, ReadError>
     ensures { Passes result (read_width_word cursor.entry.budget cursor.entry.rest.now) }
 {
-    if !sees(cursor, &[31, 32]) {
+    if !sees(cursor, &[INT, LONG]) {
         return Ok(cursor);
     }
-    if sees(cursor, &[31]) {
+    if sees(cursor, &[INT]) {
         return cursor.keyword("int", 0);
     }
     cursor.keyword("long", 0)
 }
 
-fn declaration(alloc: Global, cursor: Cursor<'_>) -> Result<(Declaration, Cursor<'_>), ReadError>
+fn declaration(
+    alloc: Global,
+    cursor: TokenCursor<'_>,
+) -> Result<(Declaration, TokenCursor<'_>), ReadError>
     ensures { Gives result (read_declaration cursor.entry.budget cursor.entry.rest.now) }
 {
     let next = width_word(cursor)?;
@@ -45,19 +49,14 @@ fn declaration(alloc: Global, cursor: Cursor<'_>) -> Result<(Declaration, Cursor
 
 fn declarations(
     alloc: Global,
-    cursor: Cursor<'_>,
-) -> Result<(List<Declaration>, Cursor<'_>), ReadError>
+    cursor: TokenCursor<'_>,
+) -> Result<(List<Declaration>, TokenCursor<'_>), ReadError>
     ensures { Gives result (read_declarations cursor.entry.budget cursor.entry.rest.now) }
 {
-    let (first, mut place) = declaration(alloc, cursor)?;
-    let mut items = Vec::new(alloc);
-    items.push(first)?;
-    'members: while sees(place, &[25, 31, 32]) {
-        let (next, end) = declaration(alloc, place)?;
-        items.push(next)?;
-        place = end;
-    }
-    Ok((List::from_vec(items), place))
+    let (first, place) = declaration(alloc, cursor)?;
+    list(alloc, &[NAME, INT, LONG], first, place, |place| {
+        declaration(alloc, place)
+    })
 }
 
 /// The declarations behind this word, whose class is given; none where another word is there.
@@ -65,8 +64,8 @@ pub(crate) fn section<'a>(
     alloc: Global,
     class: u32,
     word: &str,
-    cursor: Cursor<'a>,
-) -> Result<(List<Declaration>, Cursor<'a>), ReadError>
+    cursor: TokenCursor<'a>,
+) -> Result<(List<Declaration>, TokenCursor<'a>), ReadError>
     ensures { Gives result (read_section class word.now cursor.entry.budget cursor.entry.rest.now) }
 {
     if !sees(cursor, &[class]) {

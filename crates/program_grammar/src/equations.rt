@@ -5,6 +5,7 @@ ghost use Rattle.std.specs.Prelude.{◌≡◌, [], ◌∷◌};
 ghost use Rattle.az_text.specs.declared.mark.MarkKind.TheVariants.{Semicolon};
 ghost use Rattle.grammar_rules.specs.Gives.{Gives, IsReadBy, Passes};
 ghost use Rattle.grammar_rules.specs.Readers.{read_many};
+ghost use Rattle.grammar_rules.specs.Tokens.{name_class};
 ghost use Rattle.program_grammar.specs.Grammar.{program, weight_of_end};
 ghost use Rattle.program_grammar.specs.Values as value;
 ghost use Rattle.program_grammar.specs.Words.{class, read_mark};
@@ -15,11 +16,12 @@ use crate::domains::domain_of_rows;
 use crate::expressions::expr;
 use crate::sides::indices;
 use crate::size::is_within;
-use crate::words::{name, sees};
+use crate::words::{INPUT, LOCAL, OUTPUT, name, sees};
 use crate::{Chain, Declaration, Equation, Expr, ProgramText};
 use az_lin::{List, Name};
 use az_text::{MarkKind, Token};
-use grammar_rules::{Cursor, ReadError, finish};
+use grammar_rules::classes::NAME;
+use grammar_rules::{Cursor, ReadError, TokenCursor, finish};
 use std::alloc::Global;
 
 /// The limit on nodes and opened parentheses together while an equation is read, and the one on
@@ -28,7 +30,10 @@ const NODES_AND_PARENTHESES: u32 = 1024;
 
 const NODES: u32 = 512;
 
-fn equation_body(alloc: Global, cursor: Cursor<'_>) -> Result<(Equation, Cursor<'_>), ReadError>
+fn equation_body(
+    alloc: Global,
+    cursor: TokenCursor<'_>,
+) -> Result<(Equation, TokenCursor<'_>), ReadError>
     ensures { Gives result (read_equation_body 1025 cursor.entry.budget cursor.entry.rest.now) }
 {
     let (variable, next) = name(alloc, cursor, 0)?;
@@ -46,14 +51,17 @@ fn equation_body(alloc: Global, cursor: Cursor<'_>) -> Result<(Equation, Cursor<
 }
 
 /// Past the semicolon behind this body.
-fn ended<'a>(body: &Expr, cursor: Cursor<'a>) -> Result<Cursor<'a>, ReadError>
+fn ended<'a>(body: &Expr, cursor: TokenCursor<'a>) -> Result<TokenCursor<'a>, ReadError>
     ensures { Passes result (read_mark Semicolon (weight_of_end body.now) 0 cursor.entry.rest.now) }
 {
     let weight = u32::from(!is_within(body, NODES));
     cursor.limited(0).mark(MarkKind::Semicolon, weight)
 }
 
-fn equation(alloc: Global, cursor: Cursor<'_>) -> Result<(Equation, Cursor<'_>), ReadError>
+fn equation(
+    alloc: Global,
+    cursor: TokenCursor<'_>,
+) -> Result<(Equation, TokenCursor<'_>), ReadError>
     ensures { Gives result (read_equation 0 cursor.entry.rest.now) }
 {
     let start = cursor.limited(NODES_AND_PARENTHESES);
@@ -66,13 +74,13 @@ fn equation(alloc: Global, cursor: Cursor<'_>) -> Result<(Equation, Cursor<'_>),
 
 fn some_equations(
     alloc: Global,
-    cursor: Cursor<'_>,
-) -> Result<(List<Equation>, Cursor<'_>), ReadError>
-    ensures { Gives result (read_many class (25 ∷ []) read_equation 0 cursor.entry.rest.now) }
+    cursor: TokenCursor<'_>,
+) -> Result<(List<Equation>, TokenCursor<'_>), ReadError>
+    ensures { Gives result (read_many class (name_class ∷ []) read_equation 0 cursor.entry.rest.now) }
 {
     let mut items = Vec::new(alloc);
     let mut place = cursor.limited(0);
-    'members: while sees(place, &[25]) {
+    'members: while sees(place, &[NAME]) {
         let (next, end) = equation(alloc, place)?;
         items.push(next)?;
         place = end;
@@ -80,7 +88,10 @@ fn some_equations(
     Ok((List::from_vec(items), place))
 }
 
-fn equations(alloc: Global, cursor: Cursor<'_>) -> Result<(List<Equation>, Cursor<'_>), ReadError>
+fn equations(
+    alloc: Global,
+    cursor: TokenCursor<'_>,
+) -> Result<(List<Equation>, TokenCursor<'_>), ReadError>
     ensures { Gives result (read_equations 0 cursor.entry.rest.now) }
 {
     let next = cursor.limited(0).keyword("let", 0)?;
@@ -90,18 +101,21 @@ fn equations(alloc: Global, cursor: Cursor<'_>) -> Result<(List<Equation>, Curso
 
 type Sections = (List<Declaration>, (List<Declaration>, List<Declaration>));
 
-fn sections(alloc: Global, cursor: Cursor<'_>) -> Result<(Sections, Cursor<'_>), ReadError>
+fn sections(
+    alloc: Global,
+    cursor: TokenCursor<'_>,
+) -> Result<(Sections, TokenCursor<'_>), ReadError>
     ensures { Gives result (read_sections cursor.entry.budget cursor.entry.rest.now) }
 {
-    let (inputs, next) = section(alloc, 27, "input", cursor)?;
-    let (outputs, next) = section(alloc, 28, "output", next)?;
-    let (locals, end) = section(alloc, 29, "local", next)?;
+    let (inputs, next) = section(alloc, INPUT, "input", cursor)?;
+    let (outputs, next) = section(alloc, OUTPUT, "output", next)?;
+    let (locals, end) = section(alloc, LOCAL, "local", next)?;
     Ok(((inputs, (outputs, locals)), end))
 }
 
 type Header = (Name, ((List<Name>, List<Chain>), Sections));
 
-fn header(alloc: Global, cursor: Cursor<'_>) -> Result<(Header, Cursor<'_>), ReadError>
+fn header(alloc: Global, cursor: TokenCursor<'_>) -> Result<(Header, TokenCursor<'_>), ReadError>
     ensures { Gives result (read_header cursor.entry.budget cursor.entry.rest.now) }
 {
     let next = cursor.keyword("affine", 0)?;
@@ -126,7 +140,10 @@ fn whole(header: Header, equations: List<Equation>) -> ProgramText
     }
 }
 
-fn program(alloc: Global, cursor: Cursor<'_>) -> Result<(ProgramText, Cursor<'_>), ReadError>
+fn program(
+    alloc: Global,
+    cursor: TokenCursor<'_>,
+) -> Result<(ProgramText, TokenCursor<'_>), ReadError>
     requires { cursor.budget ≡ 0 }
     ensures { Gives result (read_program cursor.entry.budget cursor.entry.rest.now) }
 {

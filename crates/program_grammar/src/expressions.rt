@@ -10,11 +10,14 @@ ghost use Rattle.program_grammar.specs.Readers.{read_access, read_index, read_in
 
 use crate::domains::{restriction, restriction_of_rows};
 use crate::sides::{affine, indices, rows_in_brackets};
-use crate::words::{fold, function, name, sees, sign};
-use crate::{Branch, Chain, Expr, Operator, Term};
+use crate::words::{AND, CASE, MAX, MIN, OR, XOR, fold, function, name, sees, sign};
+use crate::{Branch, Chain, Expr, Operator};
 use az_lin::List;
 use az_text::MarkKind;
-use grammar_rules::{Cursor, ReadError};
+use grammar_rules::classes::{
+    MINUS, NAME, NUMBER, OPEN_BRACE, OPEN_BRACKET, OPEN_PAREN, PLUS, STAR,
+};
+use grammar_rules::{ReadError, Term, TokenCursor};
 use sqlite_items::{Boxed, Items};
 use std::alloc::{AllocError, Global};
 
@@ -40,11 +43,11 @@ fn restricted(alloc: Global, disjuncts: List<List<Chain>>, body: Expr) -> Result
     Ok(Expr::Cases(branches))
 }
 
-fn access(alloc: Global, cursor: Cursor<'_>) -> Result<(Expr, Cursor<'_>), ReadError>
+fn access(alloc: Global, cursor: TokenCursor<'_>) -> Result<(Expr, TokenCursor<'_>), ReadError>
     ensures { Gives result (read_access cursor.entry.budget cursor.entry.rest.now) }
 {
     let (name, end) = name(alloc, cursor, 1)?;
-    if sees(end, &[2]) {
+    if sees(end, &[OPEN_BRACKET]) {
         let (rows, end) = rows_in_brackets(alloc, end)?;
         return Ok((Expr::Access(name, rows), end));
     }
@@ -60,7 +63,7 @@ fn access(alloc: Global, cursor: Cursor<'_>) -> Result<(Expr, Cursor<'_>), ReadE
     }
 }
 
-fn index(alloc: Global, cursor: Cursor<'_>) -> Result<(Expr, Cursor<'_>), ReadError>
+fn index(alloc: Global, cursor: TokenCursor<'_>) -> Result<(Expr, TokenCursor<'_>), ReadError>
     ensures { Gives result (read_index cursor.entry.budget cursor.entry.rest.now) }
 {
     let inner = cursor.mark(MarkKind::OpenBracket, 1)?;
@@ -71,9 +74,9 @@ fn index(alloc: Global, cursor: Cursor<'_>) -> Result<(Expr, Cursor<'_>), ReadEr
 #[cycle(expressions)]
 fn in_parentheses(
     alloc: Global,
-    cursor: Cursor<'_>,
+    cursor: TokenCursor<'_>,
     depth: u64,
-) -> Result<(Expr, Cursor<'_>), ReadError>
+) -> Result<(Expr, TokenCursor<'_>), ReadError>
     ensures { Gives result (read_in_parentheses (read_expr depth) cursor.entry.budget cursor.entry.rest.now) }
 {
     let inner = cursor.mark(MarkKind::OpenParen, 1)?;
@@ -82,7 +85,11 @@ fn in_parentheses(
 }
 
 #[cycle(expressions)]
-fn call(alloc: Global, cursor: Cursor<'_>, depth: u64) -> Result<(Expr, Cursor<'_>), ReadError>
+fn call(
+    alloc: Global,
+    cursor: TokenCursor<'_>,
+    depth: u64,
+) -> Result<(Expr, TokenCursor<'_>), ReadError>
     ensures { Gives result (read_call (read_expr depth) cursor.entry.budget cursor.entry.rest.now) }
 {
     let (op, next) = function(cursor)?;
@@ -95,7 +102,11 @@ fn call(alloc: Global, cursor: Cursor<'_>, depth: u64) -> Result<(Expr, Cursor<'
 }
 
 #[cycle(expressions)]
-fn branch(alloc: Global, cursor: Cursor<'_>, depth: u64) -> Result<(Branch, Cursor<'_>), ReadError>
+fn branch(
+    alloc: Global,
+    cursor: TokenCursor<'_>,
+    depth: u64,
+) -> Result<(Branch, TokenCursor<'_>), ReadError>
     ensures { Gives result (read_branch (read_expr depth) cursor.entry.budget cursor.entry.rest.now) }
 {
     let (disjuncts, next) = restriction(alloc, 0, cursor)?;
@@ -108,15 +119,15 @@ fn branch(alloc: Global, cursor: Cursor<'_>, depth: u64) -> Result<(Branch, Curs
 #[cycle(expressions)]
 fn branches(
     alloc: Global,
-    cursor: Cursor<'_>,
+    cursor: TokenCursor<'_>,
     depth: u64,
-) -> Result<(Items<Branch>, Cursor<'_>), ReadError>
+) -> Result<(Items<Branch>, TokenCursor<'_>), ReadError>
     ensures { Gives result (read_branches (read_expr depth) cursor.entry.budget cursor.entry.rest.now) }
 {
     let (first, mut place) = branch(alloc, cursor, depth)?;
     let mut items = Vec::new(alloc);
     items.push(first)?;
-    'members: while sees(place, &[0]) {
+    'members: while sees(place, &[OPEN_BRACE]) {
         let (next, end) = branch(alloc, place, depth)?;
         items.push(next)?;
         place = end;
@@ -125,7 +136,11 @@ fn branches(
 }
 
 #[cycle(expressions)]
-fn cases(alloc: Global, cursor: Cursor<'_>, depth: u64) -> Result<(Expr, Cursor<'_>), ReadError>
+fn cases(
+    alloc: Global,
+    cursor: TokenCursor<'_>,
+    depth: u64,
+) -> Result<(Expr, TokenCursor<'_>), ReadError>
     ensures { Gives result (read_cases (read_expr depth) cursor.entry.budget cursor.entry.rest.now) }
 {
     let inner = cursor.keyword("case", 1)?;
@@ -134,7 +149,11 @@ fn cases(alloc: Global, cursor: Cursor<'_>, depth: u64) -> Result<(Expr, Cursor<
 }
 
 #[cycle(expressions)]
-fn reduction(alloc: Global, cursor: Cursor<'_>, depth: u64) -> Result<(Expr, Cursor<'_>), ReadError>
+fn reduction(
+    alloc: Global,
+    cursor: TokenCursor<'_>,
+    depth: u64,
+) -> Result<(Expr, TokenCursor<'_>), ReadError>
     ensures { Gives result (read_reduction (read_expr depth) cursor.entry.budget cursor.entry.rest.now) }
 {
     let next = cursor.keyword("reduce", 1)?;
@@ -152,32 +171,40 @@ fn reduction(alloc: Global, cursor: Cursor<'_>, depth: u64) -> Result<(Expr, Cur
 }
 
 #[cycle(expressions)]
-fn operand(alloc: Global, cursor: Cursor<'_>, depth: u64) -> Result<(Expr, Cursor<'_>), ReadError>
+fn operand(
+    alloc: Global,
+    cursor: TokenCursor<'_>,
+    depth: u64,
+) -> Result<(Expr, TokenCursor<'_>), ReadError>
     ensures { Gives result (read_operand (read_expr depth) cursor.entry.budget cursor.entry.rest.now) }
 {
-    if sees(cursor, &[25]) {
+    if sees(cursor, &[NAME]) {
         return access(alloc, cursor);
     }
-    if sees(cursor, &[2]) {
+    if sees(cursor, &[OPEN_BRACKET]) {
         return index(alloc, cursor);
     }
-    if sees(cursor, &[4]) {
+    if sees(cursor, &[OPEN_PAREN]) {
         return in_parentheses(alloc, cursor, depth);
     }
-    if sees(cursor, &[36, 37, 38, 39, 40]) {
+    if sees(cursor, &[MAX, MIN, AND, OR, XOR]) {
         return call(alloc, cursor, depth);
     }
-    if sees(cursor, &[33]) {
+    if sees(cursor, &[CASE]) {
         return cases(alloc, cursor, depth);
     }
     reduction(alloc, cursor, depth)
 }
 
 #[cycle(expressions)]
-fn primary(alloc: Global, cursor: Cursor<'_>, depth: u64) -> Result<(Expr, Cursor<'_>), ReadError>
+fn primary(
+    alloc: Global,
+    cursor: TokenCursor<'_>,
+    depth: u64,
+) -> Result<(Expr, TokenCursor<'_>), ReadError>
     ensures { Gives result (read_primary (read_expr depth) cursor.entry.budget cursor.entry.rest.now) }
 {
-    if !sees(cursor, &[23]) {
+    if !sees(cursor, &[NUMBER]) {
         return operand(alloc, cursor, depth);
     }
     let (number, end) = cursor.number(1)?;
@@ -186,10 +213,14 @@ fn primary(alloc: Global, cursor: Cursor<'_>, depth: u64) -> Result<(Expr, Curso
 
 /// What stands behind a minus.
 #[cycle(expressions)]
-fn negated(alloc: Global, cursor: Cursor<'_>, depth: u64) -> Result<(Expr, Cursor<'_>), ReadError>
+fn negated(
+    alloc: Global,
+    cursor: TokenCursor<'_>,
+    depth: u64,
+) -> Result<(Expr, TokenCursor<'_>), ReadError>
     ensures { Gives result (read_negated (read_expr depth) cursor.entry.budget cursor.entry.rest.now) }
 {
-    if sees(cursor, &[23]) {
+    if sees(cursor, &[NUMBER]) {
         let (number, end) = cursor.number(0)?;
         return Ok((Expr::Constant(true, number), end));
     }
@@ -198,10 +229,14 @@ fn negated(alloc: Global, cursor: Cursor<'_>, depth: u64) -> Result<(Expr, Curso
 }
 
 #[cycle(expressions)]
-fn unary(alloc: Global, cursor: Cursor<'_>, depth: u64) -> Result<(Expr, Cursor<'_>), ReadError>
+fn unary(
+    alloc: Global,
+    cursor: TokenCursor<'_>,
+    depth: u64,
+) -> Result<(Expr, TokenCursor<'_>), ReadError>
     ensures { Gives result (read_unary (read_expr depth) cursor.entry.budget cursor.entry.rest.now) }
 {
-    if !sees(cursor, &[20]) {
+    if !sees(cursor, &[MINUS]) {
         return primary(alloc, cursor, depth);
     }
     let next = cursor.mark(MarkKind::Minus, 1)?;
@@ -209,7 +244,11 @@ fn unary(alloc: Global, cursor: Cursor<'_>, depth: u64) -> Result<(Expr, Cursor<
 }
 
 #[cycle(expressions)]
-fn factor(alloc: Global, cursor: Cursor<'_>, depth: u64) -> Result<(Expr, Cursor<'_>), ReadError>
+fn factor(
+    alloc: Global,
+    cursor: TokenCursor<'_>,
+    depth: u64,
+) -> Result<(Expr, TokenCursor<'_>), ReadError>
     ensures { Gives result (read_factor (read_expr depth) cursor.entry.budget cursor.entry.rest.now) }
 {
     let next = cursor.mark(MarkKind::Star, 1)?;
@@ -217,11 +256,15 @@ fn factor(alloc: Global, cursor: Cursor<'_>, depth: u64) -> Result<(Expr, Cursor
 }
 
 #[cycle(expressions)]
-fn product(alloc: Global, cursor: Cursor<'_>, depth: u64) -> Result<(Expr, Cursor<'_>), ReadError>
+fn product(
+    alloc: Global,
+    cursor: TokenCursor<'_>,
+    depth: u64,
+) -> Result<(Expr, TokenCursor<'_>), ReadError>
     ensures { Gives result (read_product (read_expr depth) cursor.entry.budget cursor.entry.rest.now) }
 {
     let (mut value, mut place) = unary(alloc, cursor, depth)?;
-    'factors: while sees(place, &[21]) {
+    'factors: while sees(place, &[STAR]) {
         let (next, end) = factor(alloc, place, depth)?;
         value = binary(alloc, Operator::Multiply, value, next)?;
         place = end;
@@ -232,9 +275,9 @@ fn product(alloc: Global, cursor: Cursor<'_>, depth: u64) -> Result<(Expr, Curso
 #[cycle(expressions)]
 fn summand(
     alloc: Global,
-    cursor: Cursor<'_>,
+    cursor: TokenCursor<'_>,
     depth: u64,
-) -> Result<((bool, Expr), Cursor<'_>), ReadError>
+) -> Result<((bool, Expr), TokenCursor<'_>), ReadError>
     ensures { Gives result (read_summand (read_expr depth) cursor.entry.budget cursor.entry.rest.now) }
 {
     let (negative, next) = sign(cursor, 1)?;
@@ -254,11 +297,15 @@ fn signed(negative: bool) -> Operator
 }
 
 #[cycle(expressions)]
-fn sum(alloc: Global, cursor: Cursor<'_>, depth: u64) -> Result<(Expr, Cursor<'_>), ReadError>
+fn sum(
+    alloc: Global,
+    cursor: TokenCursor<'_>,
+    depth: u64,
+) -> Result<(Expr, TokenCursor<'_>), ReadError>
     ensures { Gives result (read_sum (read_expr depth) cursor.entry.budget cursor.entry.rest.now) }
 {
     let (mut value, mut place) = product(alloc, cursor, depth)?;
-    'summands: while sees(place, &[19, 20]) {
+    'summands: while sees(place, &[PLUS, MINUS]) {
         let ((negative, next), end) = summand(alloc, place, depth)?;
         value = binary(alloc, signed(negative), value, next)?;
         place = end;
@@ -267,10 +314,14 @@ fn sum(alloc: Global, cursor: Cursor<'_>, depth: u64) -> Result<(Expr, Cursor<'_
 }
 
 #[cycle(expressions)]
-fn expr_body(alloc: Global, cursor: Cursor<'_>, depth: u64) -> Result<(Expr, Cursor<'_>), ReadError>
+fn expr_body(
+    alloc: Global,
+    cursor: TokenCursor<'_>,
+    depth: u64,
+) -> Result<(Expr, TokenCursor<'_>), ReadError>
     ensures { Gives result (read_expr_body (read_expr depth) cursor.entry.budget cursor.entry.rest.now) }
 {
-    if !sees(cursor, &[0]) {
+    if !sees(cursor, &[OPEN_BRACE]) {
         return sum(alloc, cursor, depth);
     }
     let (disjuncts, next) = restriction(alloc, 1, cursor)?;
@@ -282,9 +333,9 @@ fn expr_body(alloc: Global, cursor: Cursor<'_>, depth: u64) -> Result<(Expr, Cur
 #[cycle(expressions)]
 pub(crate) fn expr(
     alloc: Global,
-    cursor: Cursor<'_>,
+    cursor: TokenCursor<'_>,
     depth: u64,
-) -> Result<(Expr, Cursor<'_>), ReadError>
+) -> Result<(Expr, TokenCursor<'_>), ReadError>
     ensures { Gives result (read_expr depth cursor.entry.budget cursor.entry.rest.now) }
 {
     if depth == 0 {

@@ -8,7 +8,6 @@ mod declarations;
 mod domains;
 mod equations;
 mod expressions;
-mod fault;
 mod laws;
 mod sides;
 mod size;
@@ -19,10 +18,8 @@ mod tree;
 mod words;
 
 pub use equations::read_tokens;
-pub use fault::TextFault;
+pub use grammar_rules::Term;
 pub use laws::printed_rules_are_same;
 pub use size::is_within;
 pub use text::read_text;
-pub use tree::{
-    Branch, Chain, Declaration, Equation, Expr, Link, Operator, ProgramText, Relation, Term,
-};
+pub use tree::{Branch, Chain, Declaration, Equation, Expr, Link, Operator, ProgramText, Relation};

@@ -1,15 +1,8 @@
 //! A program as its text has it: with names, and with chains and signs as written.
 
 use az_lin::{List, Name};
+use grammar_rules::Term;
 use sqlite_items::{Boxed, Items};
-
-/// A term of an affine side, as `-2*i`, `N` or `5`. A name alone has the factor 1.
-#[derive(Drop)]
-pub struct Term {
-    pub negative: bool,
-    pub factor: u128,
-    pub name: Option<Name>,
-}
 
 /// `<=`, `<`, `>=`, `>`, and `=` or `==`.
 #[derive(Clone, Copy, PartialEq, Eq)]

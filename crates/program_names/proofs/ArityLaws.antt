@@ -12,7 +12,7 @@ use Rattle.az_ast.specs.Term.{term}
 use Rattle.az_ast.specs.Walks.{parts}
 use Rattle.program_grammar.specs.declared.tree.Expr as tree
 use Rattle.program_grammar.specs.declared.tree.ProgramText.{ProgramText}
-use Rattle.program_grammar.specs.declared.tree.Term.{Term}
+use Rattle.grammar_rules.specs.declared.term.Term.{Term}
 use Rattle.program_names.specs.Pieces.{Piece, place, pieces}
 use Rattle.program_names.specs.Refusals.{declaration_of, is_unknown, is_other_arity, is_bad_operator}
 use Rattle.program_names.specs.Resolved.{number_of, expression, declared_names, variables_of}

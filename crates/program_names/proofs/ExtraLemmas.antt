@@ -6,7 +6,7 @@ use Rattle.program_grammar.specs.declared.tree.Branch.{Branch}
 use Rattle.program_grammar.specs.declared.tree.Expr.{Expr}
 use Rattle.program_grammar.specs.declared.tree.Expr.TheVariants.{Constant, Index, Access, Negation, Cases, Binary, Reduction}
 use Rattle.program_grammar.specs.declared.tree.Chain.{Chain}
-use Rattle.program_grammar.specs.declared.tree.Term.{Term}
+use Rattle.grammar_rules.specs.declared.term.Term.{Term}
 use Rattle.program_grammar.specs.declared.tree.Operator.{Operator}
 use Rattle.program_grammar.specs.declared.tree.Expr.TheFolds.{the_lemmas}
 use Rattle.program_names.specs.Extras.{extra_under, extra_below}

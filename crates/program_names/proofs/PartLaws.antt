@@ -13,7 +13,7 @@ use Rattle.az_ast.proofs.Terms.{term-Const, term-Index, term-Access, term-Neg, t
 use Rattle.program_grammar.specs.declared.tree.Branch.{Branch}
 use Rattle.program_grammar.specs.declared.tree.Expr as tree
 use Rattle.program_grammar.specs.declared.tree.Operator.{Operator}
-use Rattle.program_grammar.specs.declared.tree.Term.{Term}
+use Rattle.grammar_rules.specs.declared.term.Term.{Term}
 use Rattle.program_names.specs.Branches.{resolved_branch}
 use Rattle.program_names.specs.Pieces.{Piece, row, place, names, operator, rows, pieces, pieces_of_branches}
 use Rattle.program_names.specs.Resolved.{op_of, number_of, expression}

@@ -10,7 +10,7 @@ use Rattle.program_grammar.specs.declared.tree.Expr.{Expr}
 use Rattle.program_grammar.specs.declared.tree.Expr.TheVariants.{Constant, Index, Access, Negation, Binary, Cases, Reduction}
 use Rattle.program_grammar.specs.declared.tree.Expr.TheFolds.{the_lemmas}
 use Rattle.program_grammar.specs.declared.tree.Operator.{Operator}
-use Rattle.program_grammar.specs.declared.tree.Term.{Term}
+use Rattle.grammar_rules.specs.declared.term.Term.{Term}
 use Rattle.program_names.specs.Pieces.{Piece, number, row, place, names, operator, rows, domain_pieces, pieces, pieces_of_branches}
 use Rattle.program_names.specs.Sides.{Scope, alone}
 

@@ -9,7 +9,7 @@ use Rattle.az_lin.specs.Affine.{HasWidth, IsOver}
 use Rattle.az_lin.proofs.AllLists.{all_first}
 use Rattle.program_grammar.specs.declared.tree.Chain.{Chain}
 use Rattle.program_grammar.specs.declared.tree.Link.{Link}
-use Rattle.program_grammar.specs.declared.tree.Term.{Term}
+use Rattle.grammar_rules.specs.declared.term.Term.{Term}
 use Rattle.program_names.specs.Sides.{Scope, alone, conjunction_of, Difference, row_of, entry_of, differences, of_links, of_chain, of_chains}
 use Rattle.az_ast.proofs.Walks.{list_any-flat_map}
 use Rattle.program_names.specs.Pieces.{row, rows, domain_pieces}

@@ -7,7 +7,7 @@ use Rattle.az_lin.specs.Affine.{Affine, IsEntry, HasEntries}
 use Rattle.std.specs.Prelude.{map, Some, None, ◌||◌, unsigned_abs, slice_index_or, ℤ, pos, neg_ℤ, ◌+ℤ◌}
 use Rattle.std.proofs.lemmas.Int.{ints}
 use Rattle.std.proofs.lemmas.List.Folds.{list_any_at}
-use Rattle.program_grammar.specs.declared.tree.Term.{Term}
+use Rattle.grammar_rules.specs.declared.term.Term.{Term}
 use Rattle.program_names.specs.Refusals.{is_out, has_entry_out}
 use Rattle.program_names.specs.Sides.{Scope, Difference, is_of, signed, sum_of, entry_of, row_of}
 

@@ -9,7 +9,7 @@ use Rattle.program_grammar.specs.declared.tree.Expr.TheOpen.{Expr-F}
 use Rattle.program_grammar.specs.declared.tree.Expr.TheVariants.{Constant, Index, Access, Negation, Binary, Cases, Reduction, rolls-Constant, rolls-Index, rolls-Access, rolls-Negation, rolls-Binary, rolls-Cases, rolls-Reduction}
 use Rattle.program_grammar.specs.declared.tree.Expr.TheFolds.{ind-Expr}
 use Rattle.program_grammar.specs.declared.tree.Operator.{Operator}
-use Rattle.program_grammar.specs.declared.tree.Term.{Term}
+use Rattle.grammar_rules.specs.declared.term.Term.{Term}
 
 module _ (P : Expr → Type 0)
     (constant : (negative : Bool) (n : ℕ) → P (Constant negative n))

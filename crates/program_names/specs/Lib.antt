@@ -9,3 +9,4 @@ pub mod Totals
 pub mod Decisions
 pub mod PieceOf
 pub mod Answers
+pub mod ProgramOf

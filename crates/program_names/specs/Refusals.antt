@@ -17,7 +17,7 @@ use Rattle.az_ast.specs.Shapes.{first_of, first_kind, kinds_after, is_index_name
 use Rattle.program_grammar.specs.declared.tree.Declaration.{Declaration}
 use Rattle.program_grammar.specs.declared.tree.Equation.{Equation}
 use Rattle.program_grammar.specs.declared.tree.ProgramText.{ProgramText}
-use Rattle.program_grammar.specs.declared.tree.Term.{Term}
+use Rattle.grammar_rules.specs.declared.term.Term.{Term}
 use Rattle.program_grammar.specs.Nodes.{nodes}
 use Rattle.program_names.specs.Extras.{extra_under}
 use Rattle.program_names.specs.Pieces.{Piece, number, row, place, names, domain, operator, header_pieces, declaration_pieces, equation_pieces}

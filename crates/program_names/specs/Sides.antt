@@ -9,7 +9,7 @@ use Rattle.program_grammar.specs.declared.tree.Chain.{Chain}
 use Rattle.program_grammar.specs.declared.tree.Link.{Link}
 use Rattle.program_grammar.specs.declared.tree.Relation.{Relation}
 use Rattle.program_grammar.specs.declared.tree.Relation.TheVariants.{AtMost, Below, AtLeast, Above, Equal}
-use Rattle.program_grammar.specs.declared.tree.Term.{Term}
+use Rattle.grammar_rules.specs.declared.term.Term.{Term}
 
 abbrev pub Scope : Type 0
 Scope = List (List ℕ)

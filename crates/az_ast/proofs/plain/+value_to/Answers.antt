@@ -8,7 +8,7 @@ use Rattle.az_ast.specs.Nodes.{nodes}
 use Rattle.az_ast.specs.Term.{term}
 use Rattle.az_ast.proofs.Terms.{term-Cases}
 use Rattle.az_ast.specs.declared.plain.Found.TheVariants as found
-use Rattle.az_ast.specs.Chosen.{found_map, LeadsToBody}
+use Rattle.az_ast.specs.Inner.Chosen.{found_map, LeadsToBody}
 use Rattle.az_ast.specs.Operators.{applied}
 use Rattle.az_ast.specs.Plain.{IsReadable, IsUnreadable}
 use Rattle.az_ast.proofs.PlainSteps.{Target, index-step, read-step, body-step, negation-step, binary-step, left-step, branch-step, no_branch-step, stopped-step, all_nodes, body-nodes, branch-nodes, depth_falls}
@@ -91,7 +91,7 @@ returns-in-Cases-clause-ok t c =
 
 pub value_to-requires : goal.value_to-requires
 value_to-requires t c =
-    let leads : LeadsToBody c.args.program.now c.in-Access.x _ c.in-Body.body.now = c.in-Body.ensures in
+    let leads : LeadsToBody c.args.program.now c.in-Access.x _ _ c.in-Body.body.now = c.in-Body.ensures in
     let all : ℕ = all_nodes c.args.program.now.equations in
     let below : nodes (term leads.equation.body) ≤ all = body-nodes c.args.program.now.equations c.in-Access.x leads.equation leads.found in
     let same : nodes (term c.in-Body.body.now) ≡ nodes (term leads.equation.body) = ap (λ e. nodes (term e)) leads.body in

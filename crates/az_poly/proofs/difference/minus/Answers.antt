@@ -1,12 +1,12 @@
 use Rattle.std.proofs.Common.{◌≡◌, ◌<◌, ◌≤◌, ◌++◌, List, length, get_or, take, arith, rules, ap, sym, ◌∙◌, subst, All, Err, ◌↔◌, below_more}
-use Rattle.std.proofs.lemmas.Grind.{common_steps}
 use Rattle.std.specs.List.{Any, AllPairs}
 use Rattle.std.proofs.lemmas.List.Elements.{All-same, All-get_or}
 use Rattle.az_lin.specs.Affine.{Affine, Polyhedron, HasEntries, Holds}
 use Rattle.az_lin.specs.Negation.{negated}
-use Rattle.az_poly.specs.Answers.{IsDifference}
+use Rattle.az_poly.specs.Answers.{IsExactly, IsDifference}
 use Rattle.az_poly.specs.Operations.{piece, pieces}
 use Rattle.az_poly.proofs.Pieces.{pieces_hold, pieces_disjoint, length-pieces_from, pieces_from-step, pieces_from-done, cut_refused, negation_at}
+use Rattle.az_poly.proofs.Exactly.{refused_as, found_as}
 use Rattle.az_poly.proofs.difference.minus.Goals as goal
 
 pub returns-then-removed-gt-MOST_PIECES-clause-exact : goal.returns-then-removed-gt-MOST_PIECES-clause-exact
@@ -15,29 +15,34 @@ returns-then-removed-gt-MOST_PIECES-clause-exact c =
     let many : 256 < length c.args.b.now.rows = omega arith in
     subst (λ n. 256 < n) (sym (length-pieces_from c.args.a.now.width c.args.a.now.rows c.args.b.now.rows)) many
 
-pub returns-in_err-cut-clause-exact : goal.returns-in_err-cut-clause-exact
-returns-in_err-cut-clause-exact c =
+pub returns-in_err-of_rows-clause-exact : goal.returns-in_err-of_rows-clause-exact
+returns-in_err-of_rows-clause-exact c =
     let row = c.index-removed-number.result in
     let same : length c.rows-removed.result.now ≡ length c.args.b.now.rows = ap length c.rows-removed.ensures.value in
     let few : length c.args.b.now.rows ≤ 256 = omega arith in
-    let handed : c.from_residual-in_err-cut.result ≡ Err c.in_err-cut.field-0.0 = search rules in
+    let handed : c.from_residual-in_err-of_rows.result ≡ Err c.in_err-of_rows.field-0.0 = search rules in
+    let part = piece c.args.a.now.width c.args.a.now.rows row in
+    let refused : IsExactly (λ _. HasEntries (negated row)) part (Err c.in_err-of_rows.field-0.0) =
+    refused_as (λ _. HasEntries (negated row)) _ part c.cut.result c.in_err-of_rows.field-0.0 c.cut.ensures c.in_err-of_rows.ensures (λ all. all) in
     let own : All (λ r. HasEntries (negated r)) c.args.b.now.rows → HasEntries (negated row) =
     λ all. subst (λ r. HasEntries (negated r)) (sym (c.index-removed-number.is ∙ ap (λ rows. get_or rows c.cuts.number row) c.rows-removed.ensures.value))
     (All-get_or (λ r. HasEntries (negated r)) c.args.b.now.rows c.cuts.number row (rw (← same) c.cuts-test.true) all) in
     subst (λ answer. IsDifference c.args.a.now c.args.b.now answer) (sym handed)
-    (cut_refused c.args.a.now c.args.b.now row (piece c.args.a.now.width c.args.a.now.rows row) c.in_err-cut.field-0.0 c.in_err-cut.ensures few own)
+    (cut_refused c.args.a.now c.args.b.now row part c.in_err-of_rows.field-0.0 refused few own)
 
 pub cuts-preserved : goal.cuts-preserved
 cuts-preserved c =
     let row = c.index-removed-number.result in
     let kept : List Affine = c.args.a.now.rows ++ take c.cuts.number c.rows-removed.result.now in
-    let got : c.in_ok-cut.field-0 ≡ piece c.args.a.now.width kept row = first_of (search rules, grind (arith, common_steps)) in
+    let exact : (c.in_ok-of_rows.field-0 ≡ piece c.args.a.now.width kept row) × HasEntries (negated row) =
+    found_as (λ _. HasEntries (negated row)) (piece c.args.a.now.width kept row) c.cut.result c.in_ok-of_rows.field-0 c.cut.ensures c.in_ok-of_rows.ensures in
+    let got = exact.0 in
     record {
       so_far = pieces_from-step c.args.a.now.width c.args.a.now.rows c.rows-removed.result.now c.cuts.number row c.cuts.pieces.items c.push.new.self.items
-          c.in_ok-cut.field-0 _ c.cuts-test.true c.cuts.invariant.so_far
+          c.in_ok-of_rows.field-0 _ c.cuts-test.true c.cuts.invariant.so_far
           (got ∙ ap (λ r. piece c.args.a.now.width kept r) c.index-removed-number.is) c.in_ok-push.ensures.items;
       entries = below_more (λ k. (d : Affine) → HasEntries (negated (get_or c.rows-removed.result.now k d))) c.cuts.number c.cuts.invariant.entries
-          (negation_at c.rows-removed.result.now c.cuts.number row c.cuts-test.true c.index-removed-number.is c.in_ok-cut.ensures.1);
+          (negation_at c.rows-removed.result.now c.cuts.number row c.cuts-test.true c.index-removed-number.is exact.1);
     }
 
 pub returns-clause-exact : goal.returns-clause-exact

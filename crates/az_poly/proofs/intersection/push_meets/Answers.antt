@@ -1,7 +1,7 @@
 use Rattle.std.proofs.Common.{ap, sym, ◌∙◌, subst}
 use Rattle.az_lin.specs.Affine.{Polyhedron, IsOver}
 use Rattle.az_poly.specs.Operations.{both}
-use Rattle.az_poly.proofs.Lists.{append-take-more}
+use Rattle.az_lin.proofs.Lists.{append-take-more}
 use Rattle.az_poly.proofs.intersection.push_meets.Goals as goal
 
 pub meet_conjs-requires : goal.meet_conjs-requires

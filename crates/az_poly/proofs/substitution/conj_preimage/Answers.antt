@@ -1,23 +1,23 @@
 use Rattle.std.proofs.Common.{◌≡◌, ◌++◌, [], ◌∷◌, length, arith, rules, ap, sym, ◌∙◌, subst, All, Err}
 use Rattle.std.proofs.lemmas.List.Elements.{All-push, All-same}
 use Rattle.az_lin.specs.Affine.{Affine, HasEntries, HasWidth}
-use Rattle.az_lin.specs.Answers as linear
 use Rattle.az_lin.specs.Substitution.{composed}
 use Rattle.az_lin.proofs.Mapped.{map-take-more, map-take-all, fits_at}
 use Rattle.az_lin.proofs.Substitution.{widths_composed}
-use Rattle.az_poly.specs.Answers.{IsExactly, HasEntryRows, poly_fault}
+use Rattle.az_lin.specs.Affine.{HasEntryConj}
+use Rattle.az_lin.specs.Answers.{IsExactly}
 use Rattle.az_poly.specs.Operations.{conj_before}
-use Rattle.az_poly.proofs.Exactly.{row_handed_on}
-use Rattle.az_poly.proofs.Lists.{polyhedron_is}
+use Rattle.az_lin.proofs.Exactly.{handed_on}
+use Rattle.az_lin.proofs.Lists.{polyhedron_is}
 use Rattle.az_poly.proofs.substitution.conj_preimage.Goals as goal
 
 pub returns-in_err-compose : goal.returns-in_err-compose
 returns-in_err-compose c =
     let row = c.row-item.result in
-    let refusal : linear.IsExactly HasEntries (composed row c.args.f.now) (Err c.in_err-compose.field-0.0) = c.in_err-compose.ensures.exact in
-    let handed : c.from_residual-in_err-compose.result ≡ Err (poly_fault c.in_err-compose.field-0.0) = search rules in
-    subst (λ answer. IsExactly HasEntryRows (conj_before c.args.f.now c.args.conj.now) answer) (sym handed)
-    (row_handed_on HasEntries (composed row c.args.f.now) HasEntryRows (conj_before c.args.f.now c.args.conj.now) c.in_err-compose.field-0.0 refusal
+    let refusal : IsExactly HasEntries (composed row c.args.f.now) (Err c.in_err-compose.field-0.0) = c.in_err-compose.ensures.exact in
+    let handed : c.from_residual-in_err-compose.result ≡ Err c.in_err-compose.field-0.0 = search rules in
+    subst (λ answer. IsExactly HasEntryConj (conj_before c.args.f.now c.args.conj.now) answer) (sym handed)
+    (handed_on HasEntries (composed row c.args.f.now) HasEntryConj (conj_before c.args.f.now c.args.conj.now) c.in_err-compose.field-0.0 refusal
     (fits_at HasEntries (λ r. composed r c.args.f.now) c.rows-own.result.now c.args.conj.now.rows c.rows.row-index row c.rows-test.true c.row-item.is c.rows-own.ensures.value))
 
 pub rows-preserved : goal.rows-preserved

@@ -1,22 +1,22 @@
 use Rattle.std.proofs.Common.{◌≡◌, ◌++◌, [], ◌∷◌, length, arith, rules, ap, sym, ◌∙◌, subst, All, Err}
 use Rattle.std.proofs.lemmas.List.Elements.{All-push, All-same}
 use Rattle.az_lin.specs.Affine.{Affine, HasEntries, HasWidth}
-use Rattle.az_lin.specs.Answers as linear
 use Rattle.az_lin.specs.Substitution.{shifted}
 use Rattle.az_lin.proofs.Mapped.{map-take-more, map-take-all, fits_at}
-use Rattle.az_poly.specs.Answers.{IsExactly, HasEntryRows, poly_fault}
+use Rattle.az_lin.specs.Affine.{HasEntryConj}
+use Rattle.az_lin.specs.Answers.{IsExactly}
 use Rattle.az_poly.specs.Operations.{conj_moved}
-use Rattle.az_poly.proofs.Exactly.{row_handed_on}
-use Rattle.az_poly.proofs.Lists.{polyhedron_is, All-map_same}
+use Rattle.az_lin.proofs.Exactly.{handed_on}
+use Rattle.az_lin.proofs.Lists.{polyhedron_is, All-map_same}
 use Rattle.az_poly.proofs.substitution.conj_translate.Goals as goal
 
 pub returns-in_err-shift : goal.returns-in_err-shift
 returns-in_err-shift c =
     let row = c.row-item.result in
-    let refusal : linear.IsExactly HasEntries (shifted row c.args.v.now) (Err c.in_err-shift.field-0.0) = c.in_err-shift.ensures.exact in
-    let handed : c.from_residual-in_err-shift.result ≡ Err (poly_fault c.in_err-shift.field-0.0) = search rules in
-    subst (λ answer. IsExactly HasEntryRows (conj_moved c.args.v.now c.args.conj.now) answer) (sym handed)
-    (row_handed_on HasEntries (shifted row c.args.v.now) HasEntryRows (conj_moved c.args.v.now c.args.conj.now) c.in_err-shift.field-0.0 refusal
+    let refusal : IsExactly HasEntries (shifted row c.args.v.now) (Err c.in_err-shift.field-0.0) = c.in_err-shift.ensures.exact in
+    let handed : c.from_residual-in_err-shift.result ≡ Err c.in_err-shift.field-0.0 = search rules in
+    subst (λ answer. IsExactly HasEntryConj (conj_moved c.args.v.now c.args.conj.now) answer) (sym handed)
+    (handed_on HasEntries (shifted row c.args.v.now) HasEntryConj (conj_moved c.args.v.now c.args.conj.now) c.in_err-shift.field-0.0 refusal
     (fits_at HasEntries (λ r. shifted r c.args.v.now) c.rows-own.result.now c.args.conj.now.rows c.rows.row-index row c.rows-test.true c.row-item.is c.rows-own.ensures.value))
 
 pub rows-preserved : goal.rows-preserved

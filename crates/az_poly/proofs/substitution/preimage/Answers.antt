@@ -1,60 +1,14 @@
-use Rattle.std.proofs.Common.{◌≡◌, ◌<◌, ◌++◌, [], ◌∷◌, length, map, arith, rules, ap, sym, ◌∙◌, subst, All, Err, ◌↔◌, refl}
-use Rattle.std.proofs.lemmas.List.{length-map}
-use Rattle.std.proofs.lemmas.List.Elements.{All-push, All-same, All-map}
-use Rattle.az_lin.specs.Affine.{Polyhedron, Union, HasWidth, IsOver, HoldsSome, image_of}
-use Rattle.az_lin.proofs.Mapped.{map-take-more, map-take-all, fits_at}
-use Rattle.az_poly.specs.Answers.{IsExactly, HasEntryRows, HasEntryDisjuncts}
-use Rattle.az_poly.specs.Operations.{conj_before, domain_before}
-use Rattle.az_poly.proofs.Exactly.{handed_on}
-use Rattle.az_poly.proofs.Lists.{union_is}
-use Rattle.az_poly.proofs.Held.{before_holds}
+use Rattle.std.proofs.Common.{◌↔◌}
+use Rattle.az_lin.specs.Affine.{HasEntryDomain, HoldsSome, image_of}
+use Rattle.az_poly.specs.Operations.{domain_before}
+use Rattle.az_poly.proofs.Exactly.{exact_fault, exactly_as, ok_as}
 use Rattle.az_poly.proofs.substitution.preimage.Goals as goal
 
-pub returns-in_err-conj_preimage-clause-exact : goal.returns-in_err-conj_preimage-clause-exact
-returns-in_err-conj_preimage-clause-exact c =
-    let handed : c.from_residual-in_err-conj_preimage.result ≡ Err c.in_err-conj_preimage.field-0.0 = search rules in
-    subst (λ answer. IsExactly HasEntryDisjuncts (domain_before c.args.f.now c.args.d.now) answer) (sym handed)
-    (handed_on HasEntryRows (conj_before c.args.f.now c.conj-item.result) HasEntryDisjuncts (domain_before c.args.f.now c.args.d.now)
-    c.in_err-conj_preimage.field-0.0 c.in_err-conj_preimage.ensures
-    (fits_at HasEntryRows (λ conj. conj_before c.args.f.now conj) c.disjuncts-own.result.now c.args.d.now.disjuncts c.conjs.conj-index c.conj-item.result
-    c.conjs-test.true c.conj-item.is c.disjuncts-own.ensures.value))
+pub of_rows-requires : goal.of_rows-requires
+of_rows-requires c = exact_fault HasEntryDomain (domain_before c.args.f.now c.args.d.now) c.domain_preimage.result c.domain_preimage.ensures.exact
 
-pub conjs-preserved : goal.conjs-preserved
-conjs-preserved c =
-    let change : Polyhedron → Polyhedron = λ conj. conj_before c.args.f.now conj in
-    let got = c.in_ok-conj_preimage.field-0 in
-    record {
-      so_far = map-take-more change c.disjuncts-own.result.now c.conjs.conj-index c.conj-item.result got c.conjs.disjuncts.items c.push.new.self.items
-          c.conjs-test.true c.conjs.invariant.so_far (c.in_ok-conj_preimage.ensures.0 ∙ ap change c.conj-item.is) c.in_ok-push.ensures.items;
-      entries = All-same HasEntryRows c.push.new.self.items (c.conjs.disjuncts.items ++ got ∷ []) c.in_ok-push.ensures.items
-          (All-push HasEntryRows c.conjs.disjuncts.items got c.conjs.invariant.entries
-          (subst HasEntryRows (sym c.in_ok-conj_preimage.ensures.0) c.in_ok-conj_preimage.ensures.1));
-    }
-
-pub of_list-requires : goal.of_list-requires
-of_list-requires c =
-    let change : Polyhedron → Polyhedron = λ conj. conj_before c.args.f.now conj in
-    let full : c.conjs.conj-index ≡ length c.disjuncts-own.result.now = omega arith in
-    let all : c.from_vec.result ≡ map change c.args.d.now.disjuncts =
-    map-take-all change c.disjuncts-own.result.now c.args.d.now.disjuncts c.conjs.conj-index c.from_vec.result
-    (c.from_vec.ensures ∙ c.conjs.invariant.so_far) full c.disjuncts-own.ensures.value in
-    let several : 0 < length c.args.d.now.disjuncts = subst (λ xs. 0 < length xs) c.disjuncts-own.ensures.value c.disjuncts-own.ensures.some in
-    record {
-      some = subst (λ xs. 0 < length xs) (sym all) (subst (λ n. 0 < n) (sym (length-map c.args.d.now.disjuncts change)) several);
-      widths = subst (λ width. All (IsOver width) c.from_vec.result) (sym c.width.ensures.value)
-          (All-same (IsOver c.args.f.now.width) c.from_vec.result (map change c.args.d.now.disjuncts) all
-          (All-map (IsOver c.args.f.now.width) change c.args.d.now.disjuncts (λ k d h. refl)));
-    }
+pub returns-clause-exact : goal.returns-clause-exact
+returns-clause-exact c = exactly_as HasEntryDomain (domain_before c.args.f.now c.args.d.now) c.domain_preimage.result c.of_rows.result c.domain_preimage.ensures.exact c.of_rows.ensures
 
 pub returns-clause-meaning : goal.returns-clause-meaning
-returns-clause-meaning c = λ z.
-    let change : Polyhedron → Polyhedron = λ conj. conj_before c.args.f.now conj in
-    let full : c.conjs.conj-index ≡ length c.disjuncts-own.result.now = omega arith in
-    let same : c.in_ok-of_list.field-0 ≡ domain_before c.args.f.now c.args.d.now =
-    c.in_ok-of_list.ensures.ok
-    ∙ union_is (domain_before c.args.f.now c.args.d.now) _ _ c.width.ensures.value
-    (map-take-all change c.disjuncts-own.result.now c.args.d.now.disjuncts c.conjs.conj-index c.from_vec.result
-    (c.from_vec.ensures ∙ c.conjs.invariant.so_far) full c.disjuncts-own.ensures.value) in
-    let wide : All (HasWidth c.args.f.now.width) c.args.f.now.rows = subst (λ width. All (HasWidth width) c.args.f.now.rows) c.width.ensures.value c.width.ensures.widths in
-    subst (λ (before : Union). HoldsSome before z ↔ HoldsSome c.args.d.now (image_of c.args.f.now z)) (sym same)
-    (before_holds c.args.f.now c.args.d.now z wide)
+returns-clause-meaning c = λ z. ok_as (λ before. HoldsSome before z ↔ HoldsSome c.args.d.now (image_of c.args.f.now z)) c.domain_preimage.result c.of_rows.result (c.domain_preimage.ensures.meaning z) c.of_rows.ensures

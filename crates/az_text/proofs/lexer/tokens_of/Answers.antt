@@ -9,11 +9,11 @@ use Rattle.az_text.proofs.lexer.tokens_of.Goals as goal
 
 -- what a turn over a blank or a comment leaves
 between : (c : In-Between) → (0 < c.in-Between.len) × (c.loop-from.from + c.in-Between.len ≤ length c.args.text.now) × (and_all c.loop-from.tokens.items (lexed_from (c.loop-from.from + c.in-Between.len) 0 (drop (c.loop-from.from + c.in-Between.len) c.args.text.now)) ≡ lexed_from 0 0 c.args.text.now)
-between c = between_on c.loop-from.from c.args.text.now c.loop-from.tokens.items (lexed_from 0 0 c.args.text.now) c.in_ok-len.field-0 c.loop-from-test.true c.in_ok-len.ensures.ok c.loop-from.invariant.1 c.in-Between.len c.in-Between.is
+between c = between_on c.loop-from.from c.args.text.now c.loop-from.tokens.items (lexed_from 0 0 c.args.text.now) c.front_of.result c.loop-from-test.true c.front_of.ensures c.loop-from.invariant.1 c.in-Between.len c.in-Between.is
 
 -- and over a token
 cut : (c : In-Cut) → (0 < c.in-Cut.len) × (c.loop-from.from + c.in-Cut.len ≤ length c.args.text.now) × (and_all (c.loop-from.tokens.items ++ token_at c.loop-from.from c.in-Cut.kind c.in-Cut.len ∷ []) (lexed_from (c.loop-from.from + c.in-Cut.len) 0 (drop (c.loop-from.from + c.in-Cut.len) c.args.text.now)) ≡ lexed_from 0 0 c.args.text.now)
-cut c = cut_on c.loop-from.from c.args.text.now c.loop-from.tokens.items (lexed_from 0 0 c.args.text.now) c.in_ok-len.field-0 c.loop-from-test.true c.in_ok-len.ensures.ok c.loop-from.invariant.1 c.in-Cut.kind c.in-Cut.len c.in-Cut.is
+cut c = cut_on c.loop-from.from c.args.text.now c.loop-from.tokens.items (lexed_from 0 0 c.args.text.now) c.front_of.result c.loop-from-test.true c.front_of.ensures c.loop-from.invariant.1 c.in-Cut.kind c.in-Cut.len c.in-Cut.is
 
 pub overflow_add-from : goal.overflow_add-from
 overflow_add-from c = let on = between c in omega (arith, on.1)
@@ -39,11 +39,11 @@ loop-from-preserved c =
 
 pub returns-in-Wide : goal.returns-in-Wide
 unfolding lexed
-returns-in-Wide c = wide_here c.loop-from.from c.args.text.now c.loop-from.tokens.items (lexed_from 0 0 c.args.text.now) c.in_ok-len.field-0 c.loop-from-test.true c.in_ok-len.ensures.ok c.loop-from.invariant.1 c.in-Wide.is
+returns-in-Wide c = wide_here c.loop-from.from c.args.text.now c.loop-from.tokens.items (lexed_from 0 0 c.args.text.now) c.front_of.result c.loop-from-test.true c.front_of.ensures c.loop-from.invariant.1 c.in-Wide.is
 
 pub returns-in-Nothing : goal.returns-in-Nothing
 unfolding lexed
-returns-in-Nothing c = nothing_here c.loop-from.from c.args.text.now c.loop-from.tokens.items (lexed_from 0 0 c.args.text.now) c.in_ok-len.field-0 c.loop-from-test.true c.in_ok-len.ensures.ok c.loop-from.invariant.1 c.in-Nothing.is
+returns-in-Nothing c = nothing_here c.loop-from.from c.args.text.now c.loop-from.tokens.items (lexed_from 0 0 c.args.text.now) c.front_of.result c.loop-from-test.true c.front_of.ensures c.loop-from.invariant.1 c.in-Nothing.is
 
 pub returns : goal.returns
 unfolding lexed

@@ -1,6 +1,8 @@
-use Rattle.std.proofs.Common.{◌+◌, ap, sym, ◌∙◌}
+use Rattle.std.proofs.Common.{◌≡◌, ◌+◌, ap, sym, subst, ◌∙◌, rules}
 use Rattle.std.specs.List.{filter, fold}
-use Rattle.farkas_find.specs.Choosing.{better_of, is_free}
+use Rattle.farkas_find.specs.Choosing.{better_of, is_free, column_by_count, free_columns}
+use Rattle.farkas_find.specs.Fewest.{HasFewest}
+use Rattle.farkas_find.proofs.Fewest.{fewest}
 use Rattle.farkas_find.proofs.Places.{rest_from, fold_yes, fold_no}
 use Rattle.farkas_find.proofs.choose.column_by_count.Goals as goal
 use Rattle.farkas_find.proofs.choose.column_by_count.Goals.{then-is_free, else-is_free}
@@ -21,3 +23,10 @@ columns-preserved c =
         pairs = c.columns.invariant.pairs;
       })
     ]
+
+pub returns-clause-fewest : goal.returns-clause-fewest
+unfolding column_by_count free_columns
+returns-clause-fewest c =
+    let columns = free_columns c.args.kept c.args.width in
+    let is : c.columns.best.column ≡ column_by_count columns c.args.rows.now = search rules in
+    subst (HasFewest columns c.args.rows.now) (sym is) (fewest columns c.args.rows.now)

@@ -8,7 +8,7 @@ use Rattle.farkas_find.specs.declared.fault.FindFault.TheVariants.{Overflow, Lim
 use Rattle.farkas_find.specs.Tidying.{rounding_steps, contradiction_in, tidied}
 use Rattle.farkas_find.specs.Stages.{HasFew}
 use Rattle.farkas_find.specs.Answers.{DropAnswers}
-use Rattle.farkas_find.specs.Nexts.{DroppedAnswers}
+use Rattle.farkas_find.specs.Inner.Nexts.{DroppedAnswers}
 use Rattle.farkas_find.proofs.Keeping.{length-tidied}
 use Rattle.farkas_find.proofs.Rounded.{length-rounding_steps}
 use Rattle.farkas_find.proofs.Widths.{HaveWidth-tidied}

@@ -1,7 +1,7 @@
 use Rattle.std.proofs.Common.{◌≡◌, ◌∙◌, sym, subst, ap}
 use Rattle.farkas_find.specs.declared.choice.Choice.{Choice}
 use Rattle.farkas_find.specs.Answers.{choice_in}
-use Rattle.farkas_find.specs.Nexts.{IsChoice}
+use Rattle.farkas_find.specs.Inner.Nexts.{IsChoice}
 use Rattle.farkas_find.proofs.Chosen.{choice_in-is_choice}
 use Rattle.farkas_find.proofs.single.drop_tidied.Goals as goal
 

@@ -1,4 +1,5 @@
 use Rattle.farkas_find.proofs.Decided.{small_never_overflows, excludes_other}
+use Rattle.farkas_find.proofs.OneAnswer.{decide_once}
 use Rattle.farkas_find.proofs.verdict.decide.Goals as goal
 
 pub returns-clause-small : goal.returns-clause-small
@@ -6,3 +7,6 @@ returns-clause-small c = small_never_overflows c.args.system.now c.judge.result 
 
 pub returns-clause-one : goal.returns-clause-one
 returns-clause-one c = excludes_other c.args.system.now c.judge.result c.judge.ensures.answer
+
+pub returns-clause-only : goal.returns-clause-only
+returns-clause-only c = λ other same. decide_once c.args.system.now c.judge.result other c.judge.ensures.answer same

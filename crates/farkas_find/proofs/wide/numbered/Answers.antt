@@ -32,6 +32,6 @@ rows-preserved c =
     let given = c.index-rows-place.result in
     let ranges : HasWideRow given = rw c.index-rows-place.is (All-get_or HasWideRow c.args.rows.now c.rows.place given c.rows-test.true c.requires.range) in
     let fits : FitsSigned w128 given.konst = fits_signed_from_abs w128 given.konst ranges.constant in
-    let plain : c.in_ok-row.row ≡ record { coefs = c.as_slice.result.now; konst = given.konst } = simp to_z-of_z at c.in_ok-row.ensures.ok in
+    let plain : c.in_ok-row.row ≡ record { coefs = c.as_slice.result.now; konst = given.konst } = simp to_z-of_z at (rw c.in_ok-row.ensures at c.new.ensures.ok) in
     let is : c.in_ok-row.row ≡ affine_of given = rw (← c.as_slice.ensures) plain in
     c.in_ok-push.ensures.items ∙ numbers_one c.rows.place c.args.rows.now given c.in_ok-row.row c.rows.numbered.items c.rows-test.true c.index-rows-place.is is c.rows.invariant

@@ -5,7 +5,7 @@ use Rattle.std.specs.Ordering.{int_eq}
 use Rattle.std.specs.Cmp.Lexicographic.{pointwise}
 use Rattle.std.specs.Cmp.Rules.{signed_items}
 use Rattle.farkas_find.specs.declared.numbered.Numbered.{Numbered}
-use Rattle.farkas_find.specs.Winners.{coefs_at}
+use Rattle.farkas_find.specs.Inner.Winners.{coefs_at}
 use Rattle.farkas_find.proofs.Winning.{inside_of, finds_kept, finds_put, weaker}
 use Rattle.farkas_find.proofs.winners.take_in.Goals as goal
 

@@ -5,7 +5,7 @@ use Rattle.std.specs.Ordering.{int_eq}
 use Rattle.std.specs.Cmp.Lexicographic.{pointwise}
 use Rattle.farkas_find.specs.declared.numbered.Numbered.{Numbered}
 use Rattle.farkas_find.specs.Tidying.{is_constant}
-use Rattle.farkas_find.specs.Winners.{coefs_at, is_found}
+use Rattle.farkas_find.specs.Inner.Winners.{coefs_at, is_found}
 use Rattle.farkas_find.proofs.Winning.{found-stays}
 use Rattle.farkas_find.proofs.winners.wins.Goals as goal
 

@@ -13,4 +13,4 @@ returns c =
     subst (λ (ts : List Token). IsReadBy program 0 ts c.finish.result) c.new.ensures.rest
     (read_by program 0 c.new.result.rest.now (verdict (read_program 0 c.new.result.rest.now)) c.finish.result (program_verdict c.new.result.rest.now)
     (subst (λ (b : ℕ). Concludes c.finish.result (verdict (read_program b c.new.result.rest.now))) c.new.ensures.budget
-    (c.finish.ensures (read_program c.new.result.budget c.new.result.rest.now) c.program.ensures)))
+    (c.finish.ensures.answer (read_program c.new.result.budget c.new.result.rest.now) c.program.ensures)))

@@ -1,7 +1,7 @@
 use Rattle.std.proofs.Common.{rules, ◌≡◌, List, length, sym, subst}
 use Rattle.std.specs.Prelude.{map, All}
 use Rattle.az_lin.specs.Affine.{HasWidth}
-use Rattle.program_grammar.specs.declared.tree.Term.{Term}
+use Rattle.grammar_rules.specs.declared.term.Term.{Term}
 use Rattle.program_names.specs.Sides.{row_of, alone}
 use Rattle.program_names.proofs.RowLists.{sides-wide}
 use Rattle.program_names.proofs.domains.map_of.Goals as goal

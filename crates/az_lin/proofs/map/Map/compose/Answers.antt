@@ -56,4 +56,4 @@ returns-clause-exact c =
 pub returns-clause-meaning : goal.returns-clause-meaning
 returns-clause-meaning c = λ z.
     ap (λ (f : AffineMap). image_of f z) (result c)
-    ∙ image_of-composed c.args.self.now c.args.f.now z (subst (λ (f : AffineMap). All (HasWidth f.width) f.rows) c.f.view_is c.f.invariant)
+    ∙ image_of-composed c.args.self.now c.args.f.now z (subst (λ (f : AffineMap). All (HasWidth f.width) f.rows) c.f.view_is c.f.invariant.0)

@@ -9,7 +9,7 @@ use Rattle.std.specs.Int.{w128}
 use Rattle.az_lin.specs.declared.fault.LinFault.TheVariants.{NoInverse}
 use Rattle.az_lin.specs.declared.fault.NoInverse.TheVariants.{Kernel, Rational}
 use Rattle.az_lin.proofs.KernelLaws.{kernel_refused}
-use Rattle.az_lin.proofs.LeastDenominator.{rational_least}
+use Rattle.az_lin.proofs.LeastDenominator.{rational_least, kernel_shortest}
 use Rattle.az_lin.proofs.map.Map.invert.Goals as goal
 
 widths_of : (params width : ℕ) (rows counted : List Affine) → width ≡ params + length rows → counted ≡ rows → All (HasWidth width) counted → All (HasWidth (params + length rows)) rows
@@ -104,3 +104,9 @@ returns-then-not-is_whole-clause-kernel c =
     let wide = widths_of c.args.params c.args.self.now.width c.args.self.now.rows c.rows-count.result.now c.requires.square c.rows-count.ensures.value c.rows-count.ensures.widths in
     let exact : IsInversion c.args.params c.args.self.now (Err (NoInverse (Kernel c.from_vec-vector.result))) = search rules in
     kernel_refused c.args.params c.args.self.now c.from_vec-vector.result wide exact
+
+pub returns-then-not-is_whole-clause-least : goal.returns-then-not-is_whole-clause-least
+returns-then-not-is_whole-clause-least c =
+    let wide = widths_of c.args.params c.args.self.now.width c.args.self.now.rows c.rows-count.result.now c.requires.square c.rows-count.ensures.value c.rows-count.ensures.widths in
+    let exact : IsInversion c.args.params c.args.self.now (Err (NoInverse (Kernel c.from_vec-vector.result))) = search rules in
+    kernel_shortest c.args.params c.args.self.now c.from_vec-vector.result wide exact

@@ -10,7 +10,7 @@ use Rattle.farkas_find.specs.declared.fault.FindFault.TheVariants.{Overflow, Lim
 use Rattle.farkas_find.specs.Tidying.{rounding_steps, contradiction_in}
 use Rattle.farkas_find.specs.Choosing.{free_columns}
 use Rattle.farkas_find.specs.Stages.{tidied_rows, tidied_stage, EndsBy}
-use Rattle.farkas_find.specs.Nexts.{ChosenAnswers, AdvanceAnswers}
+use Rattle.farkas_find.specs.Inner.Nexts.{ChosenAnswers, AdvanceAnswers}
 use Rattle.farkas_find.proofs.Widths.{HaveWidth-tidied}
 use Rattle.farkas_find.proofs.Keeping.{length-tidied}
 use Rattle.farkas_find.proofs.Rounded.{length-rounding_steps}

@@ -51,11 +51,12 @@ returns c =
     let count : c.len.result - c.len-before.result ≡ length (pairs_for choice c.into_vec-rows.result.items) =
     omega (arith, more.0, more.1, c.len.ensures, c.len-before.ensures, c.next_rows.new.steps.ok.0, c.into_vec-steps.result.ok.0) in
     let rows : c.from_vec-2.result ≡ next_rows choice c.args.self.next c.args.self.rows = c.from_vec-2.ensures ∙ made.rows ∙ ap (next_rows choice c.args.self.next) rows_same in
+    let pushed = rw c.in_ok-of_memory.ensures at c.push.ensures.ok in
     record {
       few = rw rows (rw (← rows_same) made.few);
       wide = rw (← rows_same) made.wide;
       is = stage_is choice c.args.self c.from_vec-2.result (c.args.self.next + (c.len.result - c.len-before.result)) c.from_vec-3.result c.push.new.self rows
           (ap (λ n. c.args.self.next + n) count ∙ ap (λ xs. c.args.self.next + length (pairs_for choice xs)) rows_same)
           (c.from_vec-3.ensures ∙ c.in_ok-made.ensures.steps ∙ rw (rows_same, c.into_vec-steps.ensures) refl)
-          (c.in_ok-push.ensures.ok ∙ rw (c.from_vec.ensures, made.used, rows_same) refl);
+          (pushed ∙ rw (c.from_vec.ensures, made.used, rows_same) refl);
     }

@@ -1,5 +1,0 @@
-use Rattle.std.proofs.Common.{◌≡◌, length}
-use Rattle.az_ast.proofs.limit_tests.parameters.Given as goal
-
-abbrev pub invariant-names : goal.invariant-names
-invariant-names l = length l.names ≡ l.number

@@ -1,7 +1,0 @@
-use Rattle.std.proofs.Common.{◌≡◌, length}
-use Rattle.std.specs.Prelude.{All}
-use Rattle.az_lin.specs.Affine.{IsOver}
-use Rattle.az_ast.proofs.limit_tests.repeated.Given as goal
-
-abbrev pub invariant-conjs : goal.invariant-conjs
-invariant-conjs l = (length l.conjs ≡ l.number) × All (IsOver l.width) l.conjs

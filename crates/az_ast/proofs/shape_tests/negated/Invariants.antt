@@ -1,6 +1,0 @@
-use Rattle.az_ast.specs.Placed.{IsAtWidth}
-use Rattle.az_ast.specs.Term.{term}
-use Rattle.az_ast.proofs.shape_tests.negated.Given as goal
-
-abbrev pub invariant-times : goal.invariant-times
-invariant-times l = IsAtWidth 2 (term l.e) 1

@@ -1,0 +1,3 @@
+-- Words about inner functions, which no public contract cites.
+pub mod Chosen
+pub mod KeptRows

@@ -1,0 +1,10 @@
+use Rattle.std.proofs.Common.{◌≡◌, take, map, All}
+use Rattle.az_lin.specs.Affine.{HasEntryConj}
+use Rattle.az_poly.specs.Operations.{conj_before}
+use Rattle.az_poly.proofs.substitution.domain_preimage.Given as goal
+
+abbrev pub invariant-conjs : goal.invariant-conjs
+invariant-conjs l = record {
+  so_far : l.disjuncts.items ≡ map (λ conj. conj_before l.f conj) (take l.conj-index l.own);
+  entries : All HasEntryConj l.disjuncts.items;
+}

@@ -1,5 +1,0 @@
-use Rattle.grammar_rules.proofs.SumRules.{lines_are_read}
-use Rattle.grammar_rules.proofs.laws.lines_are_read.Goals as goal
-
-pub returns : goal.returns
-returns c = lines_are_read

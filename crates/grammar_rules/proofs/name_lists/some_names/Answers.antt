@@ -1,0 +1,8 @@
+use Rattle.std.proofs.Common.{rules}
+use Rattle.grammar_rules.specs.SideReaders.{read_next_name}
+use Rattle.grammar_rules.specs.TokenRules.{words}
+use Rattle.grammar_rules.proofs.name_lists.some_names.Goals as goal
+
+-- the members are read as their reader says
+pub returns : goal.returns
+returns c = rw c.in_ok-first.ensures (c.members.ensures (read_next_name (words c.args.reserved.now)) (λ cursor result post. search rules))

@@ -1,0 +1,15 @@
+pub mod FormulaData
+pub mod CaseTruth
+pub mod OppositeTruth
+pub mod Opposites
+pub mod Counts
+pub mod CaseRows
+pub mod Outcomes
+pub mod Taken
+pub mod DomainTruth
+pub mod FrontSteps
+pub mod CaseWidths
+pub mod Promises
+pub mod ShareSteps
+pub mod MemberWidths
+pub mod OneFront

@@ -1,0 +1,3 @@
+pub mod Negations
+pub mod Shares
+pub mod Verdicts

@@ -1,0 +1,9 @@
+pub mod Accesses
+pub mod BranchSteps
+pub mod ColumnLaws
+pub mod Folds
+pub mod Members
+pub mod PutLaws
+pub mod ReductionSteps
+pub mod Replaced
+pub mod Shifts

@@ -1,0 +1,2 @@
+pub mod FirstEquation
+pub mod Prefix

@@ -1,0 +1,12 @@
+pub mod Lists
+pub mod Ranges
+pub mod WalkLaws
+pub mod WalkSteps
+pub mod Words
+pub mod Merging
+pub mod Firsts
+pub mod Bounding
+pub mod Indices
+pub mod Answering
+pub mod Parting
+pub mod Hulls

@@ -1,0 +1,5 @@
+pub mod Members
+pub mod Boxes
+pub mod Hulls
+pub mod Answers
+pub mod Nest

@@ -1,0 +1,116 @@
+//! Domains of one disjunct whose bounds are whole.
+
+use crate::case::Case;
+
+pub(crate) const PLAIN: [Case; 9] = [
+    Case {
+        name: "an interval",
+        width: 1,
+        params: &[],
+        disjuncts: &[&[&[1, -2], &[-1, 5]]],
+        members: &[&[2], &[3], &[4], &[5]],
+    },
+    Case {
+        name: "a parallelogram",
+        width: 2,
+        params: &[],
+        disjuncts: &[&[&[1, 0, 0], &[-1, 0, 3], &[-1, 1, 0], &[1, -1, 1]]],
+        members: &[
+            &[0, 0],
+            &[0, 1],
+            &[1, 1],
+            &[1, 2],
+            &[2, 2],
+            &[2, 3],
+            &[3, 3],
+            &[3, 4],
+        ],
+    },
+    Case {
+        name: "a triangle at N = 3",
+        width: 3,
+        params: &[3],
+        disjuncts: &[&[
+            &[0, 1, 0, 0],
+            &[1, -1, 0, -1],
+            &[0, 0, 1, 0],
+            &[0, 1, -1, 0],
+        ]],
+        members: &[&[0, 0], &[1, 0], &[1, 1], &[2, 0], &[2, 1], &[2, 2]],
+    },
+    Case {
+        name: "a triangle at N = 0 is empty",
+        width: 3,
+        params: &[0],
+        disjuncts: &[&[
+            &[0, 1, 0, 0],
+            &[1, -1, 0, -1],
+            &[0, 0, 1, 0],
+            &[0, 1, -1, 0],
+        ]],
+        members: &[],
+    },
+    Case {
+        name: "a bound with a coefficient of the outer index",
+        width: 2,
+        params: &[],
+        disjuncts: &[&[&[1, 0, 0], &[-1, 0, 2], &[0, 1, 0], &[3, -2, 1]]],
+        members: &[
+            &[0, 0],
+            &[1, 0],
+            &[1, 1],
+            &[1, 2],
+            &[2, 0],
+            &[2, 1],
+            &[2, 2],
+            &[2, 3],
+        ],
+    },
+    Case {
+        name: "a diagonal",
+        width: 2,
+        params: &[],
+        disjuncts: &[&[&[1, -1, 0], &[-1, 1, 0], &[1, 0, 1], &[-1, 0, 1]]],
+        members: &[&[-1, -1], &[0, 0], &[1, 1]],
+    },
+    Case {
+        name: "a single point",
+        width: 3,
+        params: &[],
+        disjuncts: &[&[
+            &[1, 0, 0, -4],
+            &[-1, 0, 0, 4],
+            &[0, 1, 0, 5],
+            &[0, -1, 0, -5],
+            &[0, 0, 1, 0],
+            &[0, 0, -1, 0],
+        ]],
+        members: &[&[4, -5, 0]],
+    },
+    Case {
+        name: "a simplex of three indices",
+        width: 3,
+        params: &[],
+        disjuncts: &[&[
+            &[1, 0, 0, 0],
+            &[0, 1, 0, 0],
+            &[0, 0, 1, 0],
+            &[-1, -1, -1, 1],
+        ]],
+        members: &[&[0, 0, 0], &[0, 0, 1], &[0, 1, 0], &[1, 0, 0]],
+    },
+    Case {
+        name: "an inner index bounded by two others",
+        width: 3,
+        params: &[],
+        disjuncts: &[&[
+            &[1, 0, 0, 0],
+            &[-1, 0, 0, 1],
+            &[0, 1, 0, 0],
+            &[0, -1, 0, 1],
+            &[1, 1, -1, 0],
+            &[-1, -1, 1, 0],
+        ]],
+        members: &[&[0, 0, 0], &[0, 1, 1], &[1, 0, 1], &[1, 1, 2]],
+    },
+];

@@ -1,0 +1,14 @@
+pub mod Steps
+pub mod Loops
+pub mod Fronts
+pub mod Falsity
+pub mod Balance
+pub mod Certified
+pub mod Widths
+pub mod Readiness
+pub mod Grown
+pub mod DomainClaims
+pub mod Building
+pub mod Rooms
+pub mod ProgramReady
+pub mod Surveys

@@ -1,7 +1,8 @@
 //! Texts of programs, and what is answered for them.
 
-use crate::{Expr, Operator, TextFault, read_text};
+use crate::{Expr, Operator, read_text};
 use az_text::LexFault;
+use grammar_rules::TextFault;
 use std::alloc::{AllocError, Global};
 use std::test::Fail;
 

@@ -10,3 +10,4 @@ pub mod Indices
 pub mod Answering
 pub mod Parting
 pub mod Hulls
+pub mod OneBox

@@ -172,8 +172,9 @@ pub points_answers : (domain : Union) (params : List ℤ) (located : Located) (w
     → width ≡ located.domain.width → IsSmall width (map ranges_of located.boxes.items) → IsScanOver located.domain scan
     → IfOk result (λ points. points ≡ scan.to_come) → IfErr result (λ fault. fault ≡ Memory) → PointsAnswers domain params result
 points_answers domain params located width scan (Ok points) is same small over ok cause =
-    let members = (is_scan domain params scan (subst (λ (d : Union). IsScanOver d scan) is.at over)).members in (
-      subst (λ ps. AreMembers domain params (indices domain params) ps) (sym ok) members,
+    let scanned = is_scan domain params scan (subst (λ (d : Union). IsScanOver d scan) is.at over) in (
+      subst (λ ps. AreMembers domain params (indices domain params) ps) (sym ok) scanned.members,
+      subst (λ ps. All (IsPoint (indices domain params)) ps) (sym ok) scanned.points,
       (map ranges_of located.boxes.items, is.found, subst (λ n. IsSmall n (map ranges_of located.boxes.items)) (same ∙ ap (λ (d : Union). d.width) is.at) small),
     )
 points_answers domain params located width scan (Err fault) is same small over ok cause = inl (subst (λ f. Refuses domain params f) (sym cause) tt)

@@ -2,7 +2,7 @@
 
 ghost use Rattle.std.specs.Prelude.{◌≡◌, ◌≤◌, ◌++◌, length, All, IfOk, IfErr};
 ghost use Rattle.az_lin.specs.Affine.{IsEntry};
-ghost use Rattle.loop_scan.specs.Answers.{PointsAnswers};
+ghost use Rattle.loop_scan.specs.Answers.{PointsAnswers, IsUnrefused};
 ghost use Rattle.loop_scan.specs.declared.fault.ScanFault.TheVariants.{Memory};
 
 use crate::hull::is_small;
@@ -31,7 +31,8 @@ pub fn box_points(alloc: Global, d: &Domain, params: &[i128]) -> Result<List<Lis
     requires inside { length params.now ≤ d.now.width }
     requires narrow { d.now.width ≤ 64 }
     requires range { All IsEntry params.now }
-    ensures { PointsAnswers d.now params.now result }
+    ensures answer { PointsAnswers d.now params.now result }
+    ensures only { IfOk result (λ _. IsUnrefused d.now params.now) }
 {
     let located = Located::new(alloc, d, params)?;
     if !is_small(alloc, located.boxes.as_slice(), located.domain.width())? {

@@ -8,10 +8,11 @@ use Rattle.loop_scan.specs.Hulls.{IsSmall, IsLarge}
 use Rattle.loop_scan.specs.Nest.Answered.{ranges_of}
 use Rattle.loop_scan.specs.Nest.Joined.{IsBoxOver}
 use Rattle.loop_scan.proofs.Parting.{points_answers, points_passed}
+use Rattle.loop_scan.proofs.OneBox.{ok_unrefused}
 use Rattle.loop_scan.proofs.points.box_points.Goals as goal
 
-pub returns-in_err-located : goal.returns-in_err-located
-returns-in_err-located c =
+pub returns-in_err-located-clause-answer : goal.returns-in_err-located-clause-answer
+returns-in_err-located-clause-answer c =
     let handed : c.from_residual.result ≡ Err c.in_err-located.field-0.0 = search rules in
     subst (λ r. PointsAnswers c.args.d.now c.args.params.now r) (sym handed) (inl c.in_err-located.ensures)
 
@@ -21,8 +22,8 @@ is_small-requires c =
     let over = subst (λ n. All (IsBoxOver n) (map ranges_of c.in_ok-located.located.boxes.items)) (sym c.width.ensures) located.over in
     subst (λ (bs : List (Option (Vec Range))). All (IsBoxOver c.width.result) (map ranges_of bs)) (sym c.as_slice.ensures.value) over
 
-pub returns-then-not-branch : goal.returns-then-not-branch
-returns-then-not-branch c =
+pub returns-then-not-branch-clause-answer : goal.returns-then-not-branch-clause-answer
+returns-then-not-branch-clause-answer c =
     let boxes = c.in_ok-located.located.boxes.items in
     let large = MatchBool-at_false (IsSmall c.width.result (map ranges_of c.as_slice.result.now)) (IsLarge c.width.result (map ranges_of c.as_slice.result.now)) c.if-not-branch.true c.in_ok-is_small.ensures in
     inr (points_passed c.args.d.now c.args.params.now c.in_ok-located.located c.width.result c.in_ok-located.ensures c.width.ensures
@@ -31,6 +32,7 @@ returns-then-not-branch c =
 pub returns : goal.returns
 returns c =
     let small = MatchBool-at_true (IsSmall c.width.result (map ranges_of c.as_slice.result.now)) (IsLarge c.width.result (map ranges_of c.as_slice.result.now)) c.if-not-branch.false c.in_ok-is_small.ensures in
-    points_answers c.args.d.now c.args.params.now c.in_ok-located.located c.width.result c.in_ok-over.field-0 c.collected.result c.in_ok-located.ensures c.width.ensures
+    let answer = points_answers c.args.d.now c.args.params.now c.in_ok-located.located c.width.result c.in_ok-over.field-0 c.collected.result c.in_ok-located.ensures c.width.ensures
     (subst (λ (bs : List (Option (Vec Range))). IsSmall c.width.result (map ranges_of bs)) c.as_slice.ensures.value small)
-    c.in_ok-over.ensures.ok c.collected.ensures.ok c.collected.ensures.cause
+    c.in_ok-over.ensures.ok c.collected.ensures.ok c.collected.ensures.cause in
+    record { answer = answer; only = ok_unrefused c.args.d.now c.args.params.now c.collected.result answer }

@@ -1,0 +1,6 @@
+pub mod Sums
+pub mod Once
+pub mod Counting
+pub mod BodySteps
+pub mod PointSteps
+pub mod Answering

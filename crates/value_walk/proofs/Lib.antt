@@ -1,0 +1,7 @@
+pub mod PointPlaces
+pub mod SlotLemmas
+pub mod Steps
+pub mod Bodies
+pub mod Readiness
+pub mod Scanned
+pub mod Evaluations

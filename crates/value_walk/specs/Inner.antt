@@ -1,0 +1,4 @@
+-- Words about the inner state of the walk. No public clause cites them.
+pub mod Slots
+pub mod Ready
+pub mod Walks

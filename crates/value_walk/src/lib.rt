@@ -1,0 +1,24 @@
+//! The values of a program's points, by a walk from each point through those that it reads.
+//!
+//! `specs/Meanings.antt` says what the walk promises.
+#![tactic(auto)]
+
+mod boxes;
+mod cycle;
+mod evaluation;
+mod place;
+mod points;
+mod reader;
+mod refusal;
+mod scene;
+mod slot;
+mod stack;
+mod step;
+mod tables;
+mod value;
+mod walk;
+
+pub use boxes::members;
+pub use evaluation::values;
+pub use points::points_of;
+pub use refusal::{EvalRefusal, PointName};

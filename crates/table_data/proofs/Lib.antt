@@ -1,0 +1,12 @@
+pub mod RecordsLeft
+pub mod Lists
+pub mod OrderedPoints
+pub mod PlaceSearch
+pub mod PlacesFilled
+pub mod RecordRows
+pub mod WrittenRows
+pub mod TableRows
+pub mod Wanted
+pub mod OneReading
+pub mod OneAnswer
+pub mod Answered

@@ -7,6 +7,7 @@ pub mod CaseRows
 pub mod Outcomes
 pub mod Taken
 pub mod DomainTruth
+pub mod FirstSystem
 pub mod FrontSteps
 pub mod CaseWidths
 pub mod Promises

@@ -10,7 +10,7 @@ use Rattle.farkas_find.specs.declared.verdict.Decision.{Decision}
 use Rattle.farkas_find.specs.declared.verdict.Decision.TheVariants as decision
 use Rattle.farkas_find.proofs.OneAnswer.{decide_once}
 use Rattle.formula_refute.specs.Fronts.{IsFront, IsOnlyFront, Stops, StopsAtFirst}
-use Rattle.formula_refute.specs.Answers.{GivesFront}
+use Rattle.formula_refute.specs.Answers.{GivesFront, GivesCaseFront}
 use Rattle.formula_refute.specs.declared.front.Front.{Front}
 use Rattle.formula_refute.specs.declared.front.Stop.{Stop}
 use Rattle.formula_refute.specs.declared.front.Stop.TheVariants.{End, Point, Overflow, Rows}
@@ -88,3 +88,7 @@ front_once systems front here other there =
 pub given_once : (systems : List Polyhedron) (result : Result Front RefuteFault) → GivesFront systems result → IfOk result (IsOnlyFront systems)
 given_once systems (Ok front) h = front_once systems front h
 given_once systems (Err fault) h = tt
+
+pub case_front_once : (systems : List Polyhedron) (result : Result Front RefuteFault) → GivesCaseFront systems result → IfOk result (IsOnlyFront systems)
+case_front_once systems (Ok front) h = front_once systems front h.1
+case_front_once systems (Err fault) h = tt

@@ -1,36 +1,20 @@
 -- A worker's share grows by one derivation after another, and the shares in turn give the derivations of all systems.
-use Rattle.std.proofs.Common.{◌≡◌, ℕ, suc, ◌+◌, ◌<◌, ◌≤◌, ◌∙◌, List, [], ◌∷◌, ◌++◌, length, drop, get_or, Option, Some, Result, Ok, Err, IfOk, IfErr, refl, sym, ap, subst, arith, drop-cons}
-use Rattle.std.proofs.lemmas.List.{append_assoc, append-nil, drop-drop, drop_all}
+use Rattle.std.proofs.Common.{◌≡◌, ℕ, suc, ◌+◌, ◌<◌, ◌≤◌, ◌∙◌, List, [], ◌∷◌, ◌++◌, length, drop, get_or, Option, Some, Result, Ok, Err, IfOk, IfErr, refl, sym, ap, subst, arith}
+use Rattle.std.proofs.lemmas.List.{append_assoc, append-nil, drop-drop}
 use Rattle.az_lin.specs.Affine.{Polyhedron}
 use Rattle.az_lin.specs.declared.step.Derivation.{Derivation}
-use Rattle.farkas_find.specs.Verdict.{IsRefutedBy}
-use Rattle.formula_refute.specs.Fronts.{IsFront, Stops, StopsAtFirst}
+use Rattle.formula_refute.specs.Fronts.{IsFront, StopsAtFirst}
 use Rattle.formula_refute.specs.Answers.{GivesFront}
 use Rattle.formula_refute.specs.declared.front.Front.{Front}
 use Rattle.formula_refute.specs.declared.fault.RefuteFault.{RefuteFault}
 use Rattle.formula_refute.specs.declared.fault.RefuteFault.TheVariants.{Memory}
 use Rattle.formula_refute.specs.Inner.Shares.{RefutesFirst, AnswersEvery, IsShare, InTurn}
 use Rattle.formula_refute.specs.declared.front.Stop.{Stop}
-use Rattle.formula_refute.specs.declared.front.Stop.TheVariants.{End}
 use Rattle.formula_refute.specs.declared.share.Share.{Share}
 
 -- what stands behind these derivations stands behind all systems so far
 abbrev pub GoesOn : ℕ → List Polyhedron → List Polyhedron → List Derivation → Type 0
 GoesOn stride systems rest done = (more : List Derivation) (end : Option Stop) → AnswersEvery stride rest more end → AnswersEvery stride systems (done ++ more) end
-
--- the system at a place
-module _ (systems : List Polyhedron) (place : ℕ) (system : Polyhedron) (here : place < length systems) (is : system ≡ get_or systems place system) where
-  opened : drop place systems ≡ system ∷ drop (suc place) systems
-  opened = drop-cons systems place system here ∙ ap (λ s. s ∷ drop (suc place) systems) (sym is)
-
-  pub refutes_first : (derivation : Derivation) → IsRefutedBy system derivation.steps → RefutesFirst (drop place systems) derivation
-  refutes_first derivation refuted = let P : List Polyhedron → Type 0 = λ ss. RefutesFirst ss derivation in subst P (sym opened) refuted
-
-  pub stops_first : (stop : Stop) → Stops system stop → StopsAtFirst (drop place systems) stop
-  stops_first stop stops = let P : List Polyhedron → Type 0 = λ ss. StopsAtFirst ss stop in subst P (sym opened) stops
-
-  pub refuted_here : (derivation : Derivation) → RefutesFirst (drop place systems) derivation → IsRefutedBy system derivation.steps
-  refuted_here derivation first = let P : List Polyhedron → Type 0 = λ ss. RefutesFirst ss derivation in subst P opened first
 
 pub share_more : (stride : ℕ) (systems all : List Polyhedron) (place : ℕ) (done next : List Derivation) (derivation : Derivation) → GoesOn stride systems (drop place all) done
     → RefutesFirst (drop place all) derivation → next ≡ done ++ derivation ∷ [] → GoesOn stride systems (drop (place + stride) all) next
@@ -45,9 +29,6 @@ pub share_ends : (stride : ℕ) (systems rest : List Polyhedron) (done : List De
 share_ends stride systems rest done end goes_on last =
     let Q : List Derivation → Type 0 = λ ds. AnswersEvery stride systems ds end in
     subst Q (append-nil done) (goes_on [] end last)
-
-pub nothing_left : (systems : List Polyhedron) (place : ℕ) → length systems ≤ place → StopsAtFirst (drop place systems) End
-nothing_left systems place past = let P : List Polyhedron → Type 0 = λ ss. StopsAtFirst ss End in subst P (sym (drop_all place systems past)) refl
 
 -- the first share of a turn goes behind the others
 turn_push : (stride : ℕ) (systems : List Polyhedron) (shares : List Share) (share : Share) → InTurn stride systems shares → IsShare stride (drop (length shares) systems) share

@@ -30,3 +30,11 @@ GivesCases width c (Err Memory) = Unit {0}
 abbrev pub GivesFront : List Polyhedron → Result Front RefuteFault → Type 0
 GivesFront systems (Ok front) = IsFront systems front
 GivesFront systems (Err fault) = fault ≡ Memory
+
+-- the front of a formula's cases where they are few enough, and else the limit
+abbrev pub GivesCaseFront : List Polyhedron → Result Front RefuteFault → Type 0
+GivesCaseFront systems (Ok front) = (length systems ≤ most_systems) × IsFront systems front
+GivesCaseFront systems (Err (Limit limit)) = (limit ≡ Systems) × (most_systems < length systems)
+GivesCaseFront systems (Err (Overflow number)) = ⊥
+GivesCaseFront systems (Err Entry) = ⊥
+GivesCaseFront systems (Err Memory) = Unit {0}

@@ -1,3 +1,4 @@
+pub mod Counted
 pub mod Negations
 pub mod Shares
 pub mod Verdicts

@@ -5,7 +5,8 @@ ghost use Rattle.formula_refute.specs.Answers.{GivesFront};
 ghost use Rattle.formula_refute.specs.Fronts.{IsNarrow, IsOnlyFront};
 
 use crate::RefuteFault;
-use crate::verdict::{Verdict, verdict_on};
+use crate::case_list::{CaseList, GivenSystems};
+use crate::verdict::Verdict;
 use az_lin::{Conj, Derivation, List, RatPoint};
 use std::alloc::Global;
 
@@ -29,13 +30,13 @@ pub struct Front {
     pub stop: Stop,
 }
 
-fn front_of(alloc: Global, systems: &[Conj]) -> Result<Front, RefuteFault>
-    requires narrow { All IsNarrow systems.now }
-    ensures { GivesFront systems.now result }
+pub(crate) fn front_of<C: CaseList>(alloc: Global, cases: &C) -> Result<Front, RefuteFault>
+    requires { C.valid cases.now }
+    ensures { GivesFront (C.list cases.now) result }
 {
     let mut derivations = Vec::new(alloc);
-    'systems: for system in systems {
-        match verdict_on(alloc, system)? {
+    'cases: for number in 0..cases.count() {
+        match cases.verdict(alloc, number)? {
             Verdict::Refuted(derivation) => derivations.push(derivation)?,
             Verdict::Stopped(stop) => {
                 let derivations = List::from_vec(derivations);
@@ -55,5 +56,5 @@ pub fn decide_front(alloc: Global, systems: &[Conj]) -> Result<Front, RefuteFaul
     ensures answer { GivesFront systems.now result }
     ensures only { IfOk result (IsOnlyFront systems.now) }
 {
-    front_of(alloc, systems)
+    front_of(alloc, &GivenSystems { systems })
 }

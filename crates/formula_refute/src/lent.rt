@@ -32,12 +32,6 @@ impl<'a> LentRows<'a> {
         }
     }
 
-    pub(crate) fn clear(&mut self)
-        ensures { self.new ≡ [] }
-    {
-        self.rows.clear();
-    }
-
     pub(crate) fn push(&mut self, row: &'a Row) -> Result<(), RefuteFault>
         ensures ok { OnOk result (self.new ≡ self.old ++ row.now ∷ []) }
         ensures cause { IfErr result (λ fault. fault ≡ Memory) }

@@ -4,11 +4,13 @@
 #![tactic(auto)]
 
 mod case;
+mod case_list;
 mod copy;
 mod count;
 mod domain;
 mod fault;
 mod formula;
+mod formula_cases;
 mod front;
 mod gate;
 mod gated;
@@ -25,7 +27,7 @@ pub use fault::RefuteFault;
 pub use formula::Formula;
 pub use front::{Front, Stop, decide_front};
 pub use gate::CaseGate;
-pub use gated::decide_front_gated;
+pub use gated::{decide_cases_gated, decide_front_gated};
 pub use negation::negate;
 pub use refutation::{Answer, refute};
 pub use systems::cases;

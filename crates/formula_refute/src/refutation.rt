@@ -1,17 +1,15 @@
 //! The refutation of a formula, case by case.
 
-ghost use Rattle.std.specs.Prelude.{◌≤◌, ◌≢◌, List, length, IfOk};
+ghost use Rattle.std.specs.Prelude.{◌≤◌, List, length, IfOk};
 ghost use Rattle.az_lin.specs.Affine.{Polyhedron};
 ghost use Rattle.formula_refute.specs.Claims.{claim, IsOver};
 ghost use Rattle.formula_refute.specs.Cases.{systems, most_systems};
-ghost use Rattle.formula_refute.specs.Promise.{Refutes, StopsAtCase, IsFalseIfYes, IsOpenIfNo};
-ghost use Rattle.formula_refute.specs.declared.front.Stop.TheVariants.{End};
+ghost use Rattle.formula_refute.specs.Fronts.{IsFront};
+ghost use Rattle.formula_refute.specs.Promise.{Refutes, IsFalseIfYes, IsOpenIfNo};
 
-use crate::count::{MOST_SYSTEMS, case_count};
-use crate::lent::LentRows;
-use crate::systems::case_system;
-use crate::verdict::{Verdict, verdict_on};
-use crate::{Formula, RefuteFault, Stop};
+use crate::formula_cases::FormulaCases;
+use crate::front::front_of;
+use crate::{Formula, Front, RefuteFault, Stop};
 use az_lin::{Derivation, Limit, List, RatPoint};
 use std::alloc::Global;
 
@@ -23,13 +21,15 @@ pub enum Answer {
     No { case_no: u32, point: RatPoint },
 }
 
-/// What stands at a case that is not refuted.
-fn stopped(case_no: u32, stop: Stop) -> Result<Answer, RefuteFault>
-    requires { stop ≢ End }
-    ensures { (systems : List Polyhedron) → length systems ≤ most_systems → StopsAtCase systems case_no stop → Refutes systems result }
+/// The answer that the front of a formula's cases gives.
+fn answered(front: Front) -> Result<Answer, RefuteFault>
+    requires { length front.derivations ≤ most_systems }
+    ensures { (systems : List Polyhedron) → length systems ≤ most_systems → IsFront systems front → Refutes systems result }
 {
+    let Front { derivations, stop } = front;
+    let case_no = derivations.len() as u32;
     match stop {
-        Stop::End => unreachable!(),
+        Stop::End => Ok(Answer::Yes(derivations)),
         Stop::Point(point) => Ok(Answer::No { case_no, point }),
         Stop::Overflow => Err(RefuteFault::Overflow { case_no }),
         Stop::Rows => Err(RefuteFault::Limit(Limit::Rows)),
@@ -41,20 +41,10 @@ fn decide_cases(alloc: Global, width: usize, f: &Formula) -> Result<Answer, Refu
     requires widths { IsOver width (claim f.now) }
     ensures { Refutes (systems width (claim f.now)) result }
 {
-    let count = case_count(f);
-    if count > MOST_SYSTEMS {
+    let Some(cases) = FormulaCases::new(width, f) else {
         return Err(RefuteFault::Limit(Limit::Systems));
-    }
-    let mut rows = LentRows::new(alloc);
-    let mut derivations = Vec::new(alloc);
-    'cases: for number in 0..count {
-        let system = case_system(alloc, &mut rows, width, f, count, number)?;
-        match verdict_on(alloc, &system)? {
-            Verdict::Refuted(derivation) => derivations.push(derivation)?,
-            Verdict::Stopped(stop) => return stopped(number as u32, stop),
-        }
-    }
-    Ok(Answer::Yes(List::from_vec(derivations)))
+    };
+    answered(front_of(alloc, &cases)?)
 }
 
 /// Refutes each case of the formula by a derivation, in the calling thread. One case after another

@@ -1,13 +1,13 @@
 //! What one worker decides: every so many systems, up to the first that is not refuted.
 
-ghost use Rattle.std.specs.Prelude.{◌≡◌, ◌<◌, ◌≤◌, [], All, None, length, drop};
+ghost use Rattle.std.specs.Prelude.{◌≡◌, ◌<◌, ◌≤◌, [], None, length, drop};
 ghost use Rattle.formula_refute.specs.Cases.{most_systems};
-ghost use Rattle.formula_refute.specs.Fronts.{IsNarrow};
 ghost use Rattle.formula_refute.specs.Inner.Shares.{IsShare};
 
-use crate::verdict::{Verdict, verdict_on};
+use crate::case_list::CaseList;
+use crate::verdict::Verdict;
 use crate::{CaseGate, Stop};
-use az_lin::{Conj, Derivation};
+use az_lin::Derivation;
 use std::alloc::Global;
 use std::collections::VecDeque;
 
@@ -30,26 +30,27 @@ impl Share {
     }
 
     /// Decides the system with the worker's number, and then every so many as there are workers.
-    pub(crate) fn fill<G: CaseGate>(
+    pub(crate) fn fill<C: CaseList, G: CaseGate>(
         &mut self,
         alloc: Global,
-        systems: &[Conj],
+        cases: &C,
         gate: &G,
         worker: usize,
         workers: usize,
     )
         requires empty { self.old.derivations.items ≡ [] }
         requires open { self.old.end ≡ None }
-        requires narrow { All IsNarrow systems.now }
-        requires few { length systems.now ≤ most_systems }
+        requires all { C.valid cases.now }
+        requires few { length (C.list cases.now) ≤ most_systems }
         requires number { worker < workers }
         requires at_most { workers ≤ 64 }
-        ensures { IsShare workers (drop worker systems.now) self.new }
+        ensures { IsShare workers (drop worker (C.list cases.now)) self.new }
     {
+        let count = cases.count();
         let mut place = worker;
-        while place < systems.len() {
+        while place < count {
             gate.before_case(worker as u32, place as u32);
-            match verdict_on(alloc, &systems[place]) {
+            match cases.verdict(alloc, place) {
                 Ok(Verdict::Refuted(derivation)) => match self.derivations.push_back(derivation) {
                     Ok(()) => {}
                     Err(_) => return,

@@ -1,5 +1,6 @@
 //! Each entry of the table through all calls: its cases, their refutation in one go, and their
-//! decision one after another and by 1, 2 and 7 workers.
+//! decision one after another and by 1, 2 and 7 workers, with systems that are made before and by
+//! the workers.
 
 ghost use Rattle.std.specs.Prelude.{◌≤◌, All, IfOk, length};
 ghost use Rattle.formula_refute.specs.Cases.{most_systems};
@@ -11,7 +12,8 @@ use crate::table::{
 use crate::{Sign, formula};
 use az_lin::{Conj, Derivation, List, RatPoint, Row, Step};
 use formula_refute::{
-    Answer, CaseGate, Front, RefuteFault, Stop, cases, decide_front, decide_front_gated, refute,
+    Answer, CaseGate, Front, RefuteFault, Stop, cases, decide_cases_gated, decide_front,
+    decide_front_gated, refute,
 };
 use std::alloc::Global;
 use std::thread::Threads;
@@ -138,6 +140,24 @@ pub(crate) fn systems_of(
     cases(alloc, width, &f)
 }
 
+/// Whether so many workers, each of which makes its own cases, answer as they should.
+fn is_made_right<R: Threads + Sync>(
+    rt: &R,
+    alloc: Global,
+    entry: &Entry,
+    workers: u32,
+) -> Result<bool, RefuteFault>
+    requires some { 1 ≤ workers }
+    requires at_most { workers ≤ 64 }
+{
+    let f = formula(alloc, entry.width, entry.signs)?;
+    if entry.width > 4096 {
+        return Ok(false);
+    }
+    let front = decide_cases_gated(rt, alloc, entry.width, &f, workers, &Open)?;
+    Ok(is_front(&front, &entry.wanted))
+}
+
 fn is_entry<R: Threads + Sync>(rt: &R, alloc: Global, entry: &Entry) -> Result<bool, RefuteFault> {
     let f = formula(alloc, entry.width, entry.signs)?;
     if entry.width > 4096 || !is_answer(&refute(alloc, entry.width, &f), &entry.wanted) {
@@ -150,7 +170,7 @@ fn is_entry<R: Threads + Sync>(rt: &R, alloc: Global, entry: &Entry) -> Result<b
     }
     for workers in [1, 2, 7] {
         let front = decide_front_gated(rt, alloc, systems, workers, &Open)?;
-        if !is_front(&front, &entry.wanted) {
+        if !is_front(&front, &entry.wanted) || !is_made_right(rt, alloc, entry, workers)? {
             return Ok(false);
         }
     }

@@ -1,9 +1,10 @@
 //! Formulas at the limit on cases and beyond, with too many rows, and deeply nested.
 
 use crate::Sign::{All, Any, Row};
+use crate::answers::Open;
 use crate::{Sign, formula};
 use az_lin::Limit;
-use formula_refute::{Answer, RefuteFault, cases, negate, refute};
+use formula_refute::{Answer, RefuteFault, cases, decide_cases_gated, negate, refute};
 use std::alloc::Global;
 
 /// All of so many `Any[x, -x-1]`, of which each point meets one choice.
@@ -31,6 +32,12 @@ fn refuses_two_to_the_fortieth_cases_at_once(rt: HostRuntime) -> Result<(), Refu
     let f = formula(alloc, 1, choices(alloc, 40)?.as_slice())?;
     assert!(rt; is_limit(&refute(alloc, 1, &f), Limit::Systems));
     assert!(rt; is_limit(&cases(alloc, 1, &f), Limit::Systems));
+    assert!(rt;
+        is_limit(
+            &decide_cases_gated(&rt, alloc, 1, &f, 2, &Open),
+            Limit::Systems
+        )
+    );
     Ok(())
 }
 

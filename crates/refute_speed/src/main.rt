@@ -1,6 +1,6 @@
 //! How fast formulas are refuted: the lifetime formulas of as many reads of a stencil as the first
-//! argument says (1 to 13), by as many workers as the second says. With no worker each case is
-//! made, decided and dropped. Each formula has 15,552 cases, all of them refuted.
+//! argument says (1 to 13), by as many workers as the second says, or by `refute` where that is 0.
+//! Each formula has 15,552 cases, all of them refuted.
 #![tactic(auto)]
 
 mod affine;
@@ -9,9 +9,7 @@ mod members;
 
 ghost use Rattle.std.specs.Prelude.{◌≤◌};
 
-use formula_refute::{
-    Answer, CaseGate, Front, RefuteFault, Stop, cases, decide_front_gated, refute,
-};
+use formula_refute::{Answer, CaseGate, Front, RefuteFault, Stop, decide_cases_gated, refute};
 use lifetime::{STAR, lifetime};
 use std::alloc::Global;
 use std::env;
@@ -44,9 +42,7 @@ fn refuted_cases<R: Threads + Sync>(
             Answer::No { .. } => Ok(None),
         };
     }
-    let systems = cases(alloc, 10, &formula)?;
-    let front = decide_front_gated(rt, alloc, systems.as_slice(), workers, &Open)?;
-    match front {
+    match decide_cases_gated(rt, alloc, 10, &formula, workers, &Open)? {
         Front {
             derivations,
             stop: Stop::End,

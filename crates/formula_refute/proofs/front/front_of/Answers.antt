@@ -1,30 +1,33 @@
-use Rattle.std.proofs.Common.{List, subst, sym, arith}
+use Rattle.std.proofs.Common.{List, drop, subst, sym, arith}
 use Rattle.az_lin.specs.declared.step.Derivation.{Derivation}
 use Rattle.formula_refute.specs.Fronts.{IsFront}
-use Rattle.formula_refute.specs.Inner.Verdicts.{IsVerdict}
+use Rattle.formula_refute.specs.Inner.Verdicts.{AnswersFirst}
 use Rattle.formula_refute.specs.declared.verdict.Verdict.{Verdict}
 use Rattle.formula_refute.specs.declared.front.Stop.TheVariants.{End}
-use Rattle.formula_refute.proofs.FrontSteps.{front_more, front_stops, front_ends}
+use Rattle.formula_refute.proofs.FirstSystem.{refutes_first, stops_first}
+use Rattle.formula_refute.proofs.FrontSteps.{front_more, front_with, front_ends}
 use Rattle.formula_refute.proofs.front.front_of.Goals as goal
 
 pub returns-in-Stopped : goal.returns-in-Stopped
-returns-in-Stopped c =
-    let systems = c.args.systems.now in
-    let V : Verdict → Type 0 = λ v. IsVerdict c.system-item.result v in
+returns-in-Stopped g c =
+    let systems = g.C.CaseList.list c.args.cases.now in
+    let number = c.cases.number in
+    let V : Verdict → Type 0 = λ v. AnswersFirst (drop number systems) v in
     let F : List Derivation → Type 0 = λ ds. IsFront systems (record { derivations = ds; stop = c.in-Stopped.stop }) in
     subst F (sym c.from_vec-derivations.ensures)
-    (front_stops systems c.systems.derivations.items c.systems.system-index (omega arith) c.systems.invariant c.system-item.result c.in-Stopped.stop c.systems-test.true c.system-item.is
-    (subst V c.in-Stopped.is c.in_ok-derivation.ensures.ok))
+    (front_with systems c.cases.derivations.items number (omega arith) c.cases.invariant c.in-Stopped.stop
+    (stops_first (drop number systems) c.in-Stopped.stop (subst V c.in-Stopped.is c.in_ok-derivation.ensures.ok)))
 
-pub systems-preserved : goal.systems-preserved
-systems-preserved c =
-    let systems = c.args.systems.now in
-    let V : Verdict → Type 0 = λ v. IsVerdict c.system-item.result v in
-    front_more systems c.systems.derivations.items c.systems.system-index (omega arith) c.systems.invariant c.push.new.self.items c.system-item.result c.in-Refuted.derivation c.systems-test.true c.system-item.is
-    (subst V c.in-Refuted.is c.in_ok-derivation.ensures.ok) c.in_ok-push-in-Refuted.ensures.items
+pub cases-preserved : goal.cases-preserved
+cases-preserved g c =
+    let systems = g.C.CaseList.list c.args.cases.now in
+    let number = c.cases.number in
+    let V : Verdict → Type 0 = λ v. AnswersFirst (drop number systems) v in
+    front_more systems c.cases.derivations.items number (omega arith) c.cases.invariant c.push.new.self.items c.in-Refuted.derivation (omega arith)
+    (refutes_first (drop number systems) c.in-Refuted.derivation (subst V c.in-Refuted.is c.in_ok-derivation.ensures.ok)) c.in_ok-push-in-Refuted.ensures.items
 
 pub returns : goal.returns
-returns c =
-    let systems = c.args.systems.now in
+returns g c =
+    let systems = g.C.CaseList.list c.args.cases.now in
     let F : List Derivation → Type 0 = λ ds. IsFront systems (record { derivations = ds; stop = End }) in
-    subst F (sym c.from_vec.ensures) (front_ends systems c.systems.derivations.items c.systems.system-index (omega arith) c.systems.invariant (omega arith))
+    subst F (sym c.from_vec.ensures) (front_ends systems c.cases.derivations.items c.cases.number (omega arith) c.cases.invariant (omega arith))

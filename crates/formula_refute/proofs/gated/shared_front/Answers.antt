@@ -8,7 +8,7 @@ use Rattle.formula_refute.proofs.gated.shared_front.Goals as goal
 -- the queue holds what the workers left in its slice
 pub joined-requires-clause-filled : goal.joined-requires-clause-filled
 joined-requires-clause-filled g c =
-    let systems : List Polyhedron = c.args.systems.now in
+    let systems : List Polyhedron = g.C.CaseList.list c.args.cases.now in
     let left : List Share = c.fill_shares.new.shares in
     let stride : ℕ = length c.make_contiguous.result.now in
     let count : length left ≡ stride = c.fill_shares.ensures.count in

@@ -14,6 +14,9 @@ pub mod ReadBy
 pub mod Yields
 pub mod TextReadings
 pub mod Within
+pub mod WithinItems
 pub mod Wider
 pub mod SideRules
 pub mod LineLaws
+pub mod DecimalLaws
+pub mod Weightless

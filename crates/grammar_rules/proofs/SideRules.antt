@@ -125,7 +125,7 @@ module _ (reserved : List (List ℕ)) where
   next_affine_exact : (depth : ℕ) → Follows next_affine_shape depth (sequence behind (mark Comma 0) (affine reserved)) (read_next_affine reserved)
   next_affine_exact depth = sequence_exact behind (mark_exact Comma 0 depth) (affine_exact depth) refl
 
-  affines_exact : (depth : ℕ) → Follows affines_shape depth (comma_list (affine reserved)) (read_affines reserved)
+  pub affines_exact : (depth : ℕ) → Follows affines_shape depth (comma_list (affine reserved)) (read_affines reserved)
   affines_exact depth =
       choice_exact (19 ∷ 20 ∷ 23 ∷ 25 ∷ []) (list_of_exact (8 ∷ []) (affine_exact depth) (next_affine_exact depth) refl refl refl refl) (nothing_exact (class_of reserved) [] depth) refl refl refl
 

@@ -116,7 +116,7 @@ pub in_left : {A B : Type 0} (step : A → B → A) {p : Rule Token A} {q : Rule
     → Within p xs b a → Within (many q) ys c bs → Within (left step p q) (xs ++ ys) (b + c) (grouped step a bs)
 in_left step first rest = in_sequence (grouped step) first rest
 
-in_order : {A : Type 0} (xs ys : List A) → grouped put_last xs ys ≡ xs ++ ys
+pub in_order : {A : Type 0} (xs ys : List A) → grouped put_last xs ys ≡ xs ++ ys
 in_order xs [] = sym (append-nil xs)
 in_order xs (y ∷ ys) = in_order (xs ++ (y ∷ [])) ys ∙ append_assoc xs (y ∷ []) ys
 

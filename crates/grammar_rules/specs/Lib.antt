@@ -9,3 +9,5 @@ pub mod TokenRules
 pub mod Sides
 pub mod SideReaders
 pub mod Lines
+pub mod Decimals
+pub mod CommaLists

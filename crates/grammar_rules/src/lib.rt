@@ -7,7 +7,9 @@
 #![tactic(auto)]
 
 pub mod classes;
+mod comma_lists;
 mod cursor;
+mod decimal;
 mod ending;
 mod fault;
 mod line;
@@ -20,12 +22,16 @@ mod term;
 mod text;
 mod words;
 
+pub use comma_lists::{items, some_items};
 pub use cursor::{Cursor, TokenCursor};
+pub use decimal::{
+    Integer, Natural, integers_are_one, naturals_are_one, read_integer, read_natural,
+};
 pub use ending::finish;
 pub use fault::{ReadError, TextFault};
 pub use line::{Line, Lines, behind, cut_lines, lines_are_one};
 pub use name_lists::{indices, name, names};
 pub use repetition::members;
-pub use sides::{affine, rows_in_brackets, sign};
+pub use sides::{affine, affines, rows_in_brackets, sign};
 pub use term::Term;
 pub use text::placed;

@@ -153,7 +153,8 @@ fn some_affines<'a>(
     })
 }
 
-fn affines<'a>(
+/// Affine sides with commas between, or none.
+pub fn affines<'a>(
     alloc: Global,
     reserved: &[&str],
     cursor: TokenCursor<'a>,

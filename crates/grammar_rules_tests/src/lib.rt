@@ -3,10 +3,12 @@
 //! `specs/Sums.antt` has the grammar with its values, and its readers beside it.
 #![tactic(auto)]
 
+#[cfg(test)]
+mod decimal_tests;
 mod laws;
 mod sums;
 #[cfg(test)]
 mod tests;
 
-pub use laws::lines_are_read;
+pub use laws::{lines_are_read, word_lines_are_taken};
 pub use sums::{Sign, read_sum};

@@ -10,7 +10,7 @@ use Rattle.az_lin.proofs.AllLists.{all_first}
 use Rattle.program_grammar.specs.declared.tree.Chain.{Chain}
 use Rattle.program_grammar.specs.declared.tree.Link.{Link}
 use Rattle.grammar_rules.specs.declared.term.Term.{Term}
-use Rattle.program_names.specs.Sides.{Scope, alone, conjunction_of, Difference, row_of, entry_of, differences, of_links, of_chain, of_chains}
+use Rattle.program_names.specs.Sides.{Scope, conjunction_of, Difference, row_of, entry_of, differences, of_links, of_chain, of_chains}
 use Rattle.az_ast.proofs.Walks.{list_any-flat_map}
 use Rattle.program_names.specs.Pieces.{row, rows, domain_pieces}
 use Rattle.program_names.specs.Refusals.{has_entry_out, is_wide_row}
@@ -42,9 +42,6 @@ chains-opened chains k chain within here = ap of_chains (drop-cons chains k chai
 
 pub rows-wide : (scope : Scope) (ds : List Difference) → All (HasWidth (length scope)) (map (row_of scope) ds)
 rows-wide scope ds = All-map (HasWidth (length scope)) (row_of scope) ds (λ k d h. length-map scope (λ name. entry_of (get_or ds k d) (Some name)))
-
-pub sides-wide : (scope : Scope) (sides : List (List Term)) → All (HasWidth (length scope)) (map (λ (side : List Term). row_of scope (alone side)) sides)
-sides-wide scope sides = All-map (HasWidth (length scope)) (λ (side : List Term). row_of scope (alone side)) sides (λ k d h. length-map scope (λ name. entry_of (alone (get_or sides k d)) (Some name)))
 
 pub conjunctions-over : (scope : Scope) (disjuncts : List (List Chain)) → All (IsOver (length scope)) (map (conjunction_of scope) disjuncts)
 conjunctions-over scope disjuncts = All-map (IsOver (length scope)) (conjunction_of scope) disjuncts (λ k d h. refl)

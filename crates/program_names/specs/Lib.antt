@@ -4,9 +4,6 @@ pub mod Extras
 pub mod Resolved
 pub mod Branches
 pub mod Refusals
-pub mod Columns
-pub mod Totals
-pub mod Decisions
 pub mod PieceOf
 pub mod Answers
 pub mod ProgramOf

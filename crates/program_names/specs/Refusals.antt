@@ -3,6 +3,8 @@
 -- The limits come first, in their order. Then the items are looked at: item 0 is the header, the
 -- declarations and then the equations follow. The first item with a fault is answered, with its first
 -- kind; an output or local without an equation is answered last, at its declaration.
+pub use Rattle.side_rows.specs.Scopes.{repeats, is_unknown_in}
+pub use Rattle.side_rows.specs.Entries.{is_out, has_entry_out}
 use Rattle.std.specs.Prelude.{ℕ, ◌+◌, ◌^◌, ◌-◌, ◌==◌, nat_lt, Bool, false, not, ◌||◌, if◌then◌else◌, List, [], ◌∷◌, ◌++◌, length, map, Option, ℤ, unsigned_abs}
 use Rattle.std.specs.Option.{is_none, option_or, option_map_or}
 use Rattle.std.specs.List.{list_any, find}
@@ -26,11 +28,6 @@ use Rattle.program_names.specs.Sides.{Scope, row_of}
 
 -- the tests of one piece
 
--- a name that is in scope already, or twice among those that come into scope
-abbrev pub repeats : Scope → List (List ℕ) → Bool
-repeats scope [] = false
-repeats scope (name ∷ more) = (list_any (bytes_eq name) scope || list_any (bytes_eq name) more) || repeats scope more
-
 abbrev pub is_twice : Piece → Bool
 is_twice (number negative n) = false
 is_twice (row scope d) = false
@@ -38,9 +35,6 @@ is_twice (place x count) = false
 is_twice (names scope more) = repeats scope more
 is_twice (domain count) = false
 is_twice (operator op) = false
-
-abbrev pub is_unknown_in : Scope → Term → Bool
-is_unknown_in scope term = option_map_or (λ name. not (list_any (bytes_eq name) scope)) term.name false
 
 -- the first declaration of a name
 abbrev pub is_named : List ℕ → Declaration → Bool
@@ -68,12 +62,6 @@ is_wide_literal (domain count) = false
 is_wide_literal (operator op) = false
 
 -- a row with an entry outside ±(2^60 - 1)
-abbrev pub is_out : ℤ → Bool
-is_out z = nat_lt (2 ^ 60 - 1) (unsigned_abs z)
-
-abbrev pub has_entry_out : Affine → Bool
-has_entry_out r = list_any is_out r.coefs || is_out r.konst
-
 abbrev pub is_wide_row : Piece → Bool
 is_wide_row (number negative n) = false
 is_wide_row (row scope d) = has_entry_out (row_of scope d)

@@ -6,11 +6,10 @@ ghost use Rattle.az_lin.specs.declared.fault.LinFault.TheVariants.{Memory};
 ghost use Rattle.program_names.specs.Refusals.{has_entry_out};
 ghost use Rattle.program_names.specs.Sides.{row_of, less, differences, of_chain, of_chains, conjunction_of};
 
-use crate::difference::Difference;
 use crate::links::differences;
-use crate::scope::Scope;
 use az_lin::{Conj, LinFault, List, Row};
 use program_grammar::{Chain, Link, Term};
+use side_rows::{Difference, Scope};
 use std::alloc::Global;
 
 /// The rows, and one more.

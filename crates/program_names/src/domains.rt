@@ -1,32 +1,17 @@
-//! Domains and maps, over a scope.
+//! Domains, over a scope.
 
 ghost use Rattle.std.specs.Prelude.{◌≡◌, ◌∷◌, [], false, map, IfOk, IfErr};
 ghost use Rattle.std.specs.List.{list_any};
 ghost use Rattle.az_lin.specs.declared.fault.LinFault.TheVariants.{Memory};
 ghost use Rattle.program_names.specs.Pieces.{rows, domain_pieces};
 ghost use Rattle.program_names.specs.Refusals.{has_entry_out, is_wide_row};
-ghost use Rattle.program_names.specs.Sides.{row_of, alone, of_chains, conjunction_of, union_of, map_of};
+ghost use Rattle.program_names.specs.Sides.{row_of, of_chains, conjunction_of, union_of};
 
 use crate::chains::conjunction;
-use crate::maps::rows_of_sides;
-use crate::scope::Scope;
-use az_lin::{Conj, Domain, LinFault, List, Map};
-use program_grammar::{Chain, Term};
+use az_lin::{Conj, Domain, LinFault, List};
+use program_grammar::Chain;
+use side_rows::Scope;
 use std::alloc::Global;
-
-/// The map of an access, whose entries are in range.
-pub(crate) fn map_of(
-    alloc: Global,
-    scope: &Scope<'_>,
-    sides: &[List<Term>],
-) -> Result<Map, LinFault>
-    requires { list_any (λ side. has_entry_out (row_of scope.now (alone side))) sides.now ≡ false }
-    ensures ok { IfOk result (λ f. f ≡ map_of scope.now sides.now) }
-    ensures cause { IfErr result (λ fault. fault ≡ Memory) }
-{
-    let rows = rows_of_sides(alloc, scope, sides)?;
-    Ok(Map::new(scope.len(), rows))
-}
 
 /// The domain of one list of chains, whose entries are in range.
 pub(crate) fn plain_domain(

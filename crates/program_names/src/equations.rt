@@ -8,10 +8,10 @@ ghost use Rattle.program_names.specs.Refusals.{is_wide_literal, is_wide_row, sta
 ghost use Rattle.program_names.specs.Resolved.{equation_of};
 
 use crate::expressions::{expression, number};
-use crate::scope::joined;
 use az_ast as program;
 use az_lin::{LinFault, List, Name};
 use program_grammar::Equation;
+use side_rows::joined;
 use std::alloc::Global;
 
 /// The equation, whose entries and constants are in range.

@@ -9,13 +9,12 @@ ghost use Rattle.program_names.specs.Pieces.{pieces, pieces_of_branches};
 ghost use Rattle.program_names.specs.Refusals.{is_wide_literal, is_wide_row};
 ghost use Rattle.program_names.specs.Resolved.{number_of, expression};
 
-use crate::difference::Difference;
-use crate::domains::{domain, map_of, plain_domain};
+use crate::domains::{domain, plain_domain};
 use crate::leaves::{constant, op_of};
-use crate::scope::Scope;
 use az_ast::{Branch, Expr};
 use az_lin::{LinFault, Name};
 use program_grammar as tree;
+use side_rows::{Difference, Scope, map_of};
 use sqlite_items::{Boxed, Items};
 use std::alloc::Global;
 

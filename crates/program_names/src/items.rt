@@ -7,10 +7,10 @@ ghost use Rattle.program_names.specs.Pieces.{header_pieces, declaration_pieces, 
 
 use crate::piece::{Piece, PieceTest};
 use crate::rows::{some_of_domain, some_row};
-use crate::scope::Scope;
 use crate::walk::some_piece;
 use az_lin::{LinFault, Name};
 use program_grammar::{Declaration, Equation, ProgramText};
+use side_rows::Scope;
 use std::alloc::Global;
 
 pub(crate) fn some_of_header<P: PieceTest>(

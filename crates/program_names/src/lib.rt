@@ -5,9 +5,7 @@
 #![tactic(auto)]
 
 mod chains;
-mod column;
 mod depth;
-mod difference;
 mod domains;
 mod equations;
 mod expressions;
@@ -17,15 +15,12 @@ mod kinds;
 mod leaves;
 mod limits;
 mod links;
-mod maps;
 mod parts;
 mod piece;
 mod piece_tests;
 mod refusal;
 mod resolution;
 mod rows;
-mod scope;
-mod total;
 mod variables;
 mod walk;
 

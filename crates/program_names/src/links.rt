@@ -4,8 +4,8 @@ ghost use Rattle.std.specs.Prelude.{◌≡◌, ◌∷◌};
 ghost use Rattle.std.specs.Option.{option_to_list};
 ghost use Rattle.program_names.specs.Sides.{differences};
 
-use crate::difference::Difference;
 use program_grammar::{Link, Relation, Term};
+use side_rows::Difference;
 
 /// One difference, and a second one where the neighbours are equal.
 pub(crate) fn differences<'a>(

@@ -8,11 +8,11 @@ ghost use Rattle.program_names.specs.Resolved.{system_of};
 
 use crate::domains::plain_domain;
 use crate::equations::equations;
-use crate::scope::Scope;
 use crate::variables::{declared_names, variables};
 use az_ast::{Equation, Variable};
 use az_lin::{Domain, LinFault, List, Name, TryCopy};
 use program_grammar::ProgramText;
+use side_rows::Scope;
 use std::alloc::Global;
 
 #[derive(Drop)]

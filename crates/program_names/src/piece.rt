@@ -4,10 +4,9 @@ ghost use Rattle.std.specs.Prelude.{◌≡◌, Bool};
 ghost use Rattle.program_names.specs.PieceOf.{piece_of};
 ghost use Rattle.program_names.specs.Pieces as pieces;
 
-use crate::difference::Difference;
-use crate::scope::Scope;
 use az_lin::Name;
 use program_grammar::Operator;
+use side_rows::{Difference, Scope};
 
 #[derive(Drop)]
 pub(crate) enum Piece<'a, 'b> {

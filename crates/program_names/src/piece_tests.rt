@@ -4,12 +4,12 @@ ghost use Rattle.std.specs.Prelude.{◌≡◌, ◌||◌, ◌==◌, ◌^◌, ◌-
 ghost use Rattle.std.specs.List.{list_any, find};
 ghost use Rattle.std.specs.Option.{option_copied, option_map_or};
 ghost use Rattle.std.specs.Str.{bytes_eq};
-ghost use Rattle.program_names.specs.Refusals.{repeats, is_twice, is_named, is_unknown, is_unknown_in, is_wide_literal, is_wide_row, is_other_arity, is_bad_operator, has_many_disjuncts, declaration_of};
+ghost use Rattle.program_names.specs.Refusals.{repeats, is_twice, is_named, is_unknown, is_wide_literal, is_wide_row, is_other_arity, is_bad_operator, has_many_disjuncts, declaration_of};
 
 use crate::piece::{Piece, PieceTest};
-use crate::scope::{Scope, is_in};
 use az_lin::Name;
-use program_grammar::{Declaration, Operator, ProgramText, Term};
+use program_grammar::{Declaration, Operator, ProgramText};
+use side_rows::{Scope, is_in};
 
 const MOST_DISJUNCTS: usize = 8;
 
@@ -59,22 +59,6 @@ pub(crate) fn declaration_of<'a>(text: &'a ProgramText, name: &str) -> Option<&'
         return Some(found);
     }
     find(text.locals.as_slice(), name)
-}
-
-pub(crate) fn is_unknown_in(scope: &Scope<'_>, term: &Term) -> bool
-    ensures { result ≡ is_unknown_in scope.now term.now }
-{
-    match &term.name {
-        Some(name) => !scope.has(name.as_str()),
-        None => false,
-    }
-}
-
-/// Whether a side has a name that is none of the scope's.
-pub(crate) fn some_unknown(scope: &Scope<'_>, side: &[Term]) -> bool
-    ensures { result ≡ list_any (is_unknown_in scope.now) side.now }
-{
-    side.iter().any(|term| is_unknown_in(scope, term))
 }
 
 #[derive(Drop)]

@@ -6,12 +6,11 @@ ghost use Rattle.program_names.specs.Pieces as pieces;
 ghost use Rattle.program_names.specs.Pieces.{rows, domain_pieces};
 ghost use Rattle.program_names.specs.Sides.{alone, differences, of_links, of_chain};
 
-use crate::difference::Difference;
 use crate::links::differences;
 use crate::piece::{Piece, PieceTest};
-use crate::scope::Scope;
 use az_lin::List;
 use program_grammar::{Chain, Link, Term};
+use side_rows::{Difference, Scope};
 
 fn is_wanted<P: PieceTest>(test: &P, scope: &Scope<'_>, difference: &Difference<'_>) -> bool
     ensures { result ≡ P.wants test.now (pieces.row scope.now difference.now) }

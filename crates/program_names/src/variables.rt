@@ -8,10 +8,10 @@ ghost use Rattle.program_names.specs.Refusals.{is_wide_row, some_declared};
 ghost use Rattle.program_names.specs.Resolved.{variable_of, variables_of, declared_names};
 
 use crate::domains::domain;
-use crate::scope::joined;
 use az_ast::{Role, Variable};
 use az_lin::{LinFault, List, Name, TryCopy};
 use program_grammar::{Declaration, ProgramText};
+use side_rows::joined;
 use std::alloc::Global;
 
 /// The variable of a declaration, whose entries are in range.

@@ -8,9 +8,9 @@ ghost use Rattle.program_names.specs.Sides.{alone};
 
 use crate::piece::{Piece, PieceTest};
 use crate::rows::{is_side_wanted, some_of_domain, some_row, some_side};
-use crate::scope::Scope;
 use az_lin::{LinFault, List, Name};
 use program_grammar::{Branch, Expr, Term};
+use side_rows::Scope;
 use std::alloc::Global;
 
 /// Whether a piece of an access passes.

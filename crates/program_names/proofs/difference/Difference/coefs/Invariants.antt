@@ -1,7 +1,0 @@
-use Rattle.std.proofs.Common.{◌≡◌, take, Some}
-use Rattle.std.specs.Prelude.{map}
-use Rattle.program_names.specs.Sides.{entry_of}
-use Rattle.program_names.proofs.difference.Difference.coefs.Given as goal
-
-abbrev pub invariant-columns : goal.invariant-columns
-invariant-columns l = l.coefs.items ≡ map (λ name. entry_of l.fn.self (Some name.now)) (take l.name-index l.name-items)

@@ -1,8 +1,0 @@
--- Whether a number in two parts is an entry of a row.
-use Rattle.std.specs.Prelude.{◌≡◌, Option, Some, None, if◌then◌else◌, ℤ}
-use Rattle.program_names.specs.Refusals.{is_out}
-use Rattle.program_names.specs.Totals.{number_of}
-
--- the number, where it is in range
-abbrev pub Decides : ℤ → ℤ → Option ℤ → Type 0
-Decides high low result = (number : ℤ) → number ≡ number_of high low → result ≡ (if is_out number then None else Some number)

@@ -1,0 +1,2 @@
+pub mod ScriptRules
+pub mod LawProofs

@@ -1,0 +1,4 @@
+pub mod Texts
+pub mod Terms
+pub mod Counted
+pub mod Forms

@@ -1,0 +1,5 @@
+pub mod Parts
+pub mod Clean
+pub mod Found
+pub mod Accepted
+pub mod Again

@@ -1,0 +1,10 @@
+pub mod NameWithin
+pub mod SideWithin
+pub mod DomainWithin
+pub mod WrittenNodes
+pub mod ExpressionWithin
+pub mod ProgramWithin
+pub mod Apart
+pub mod SidesApart
+pub mod ExpressionApart
+pub mod Sentence

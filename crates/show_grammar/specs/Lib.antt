@@ -1,0 +1,2 @@
+pub mod WrittenOf
+pub mod Showable

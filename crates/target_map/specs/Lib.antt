@@ -1,0 +1,13 @@
+pub mod Kinds
+pub mod Stamps
+pub mod Before
+pub mod Settings
+pub mod Refusals
+pub mod Times
+pub mod Storage
+pub mod Dependence
+pub mod Lifetime
+pub mod Promise
+pub mod Pair
+pub mod Examples
+pub mod Laws

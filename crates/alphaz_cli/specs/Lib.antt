@@ -1,5 +1,6 @@
+pub mod Bound
 pub mod Evaluable
-pub mod Lines
-pub mod Listing
+pub mod Evaluation
+pub mod Outcomes
+pub mod Programs
 pub mod Rows
-pub mod Words

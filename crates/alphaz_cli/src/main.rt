@@ -1,18 +1,17 @@
 //! `alphaz`: evaluates systems of affine equations over polyhedral domains.
 //!
-//! `specs/Listing.antt` says what a run says and how it ends.
+//! `specs/Evaluation.antt` says how a run ends (`EndsAs`), and what it says.
 #![tactic(auto)]
 
+mod bound;
 mod eval;
 mod interval;
-mod lines;
+mod program;
 mod rows;
 mod run;
-mod say;
 mod status;
 #[cfg(test)]
 mod tests;
-mod words;
 
 use az_desk::HostDesk;
 use std::env;

@@ -1,20 +1,15 @@
-//! How a run ends.
+//! The answer of a run.
 
 ghost use Rattle.std.specs.Prelude.{◌≡◌};
-ghost use Rattle.alphaz_cli.specs.Listing.{code_of};
+ghost use Rattle.alphaz_cli.specs.Outcomes.{outcome, outcome_of_refusal};
 
-use az_ast::ShapeKind;
-use az_lin::{Limit, Name};
+use az_ast::{Reason, ShapeKind};
+use az_desk::Call;
+use az_lin::{Limit, Name, RatPoint};
+use domain_check::CheckKind;
+use session_state::{Refusal, Spot, Stop, TextKind};
 
-/// What is wrong with a text.
-#[derive(Debug, Clone, Copy, PartialEq, Eq)]
-pub enum TextKind {
-    Syntax,
-    BadByte,
-    WideNumber,
-}
-
-/// The answer of a run.
+/// What a run ended with: done, a fault of the desk, want of memory, or a refusal.
 #[derive(Debug, Drop)]
 pub enum Outcome {
     /// Everything was carried out and said.
@@ -29,6 +24,12 @@ pub enum Outcome {
     Text(Name, TextKind, usize),
     /// The rule on a program's shape that fails, and the item at which it does.
     Shape(ShapeKind, u32),
+    /// The check, the variable and the number of the first case that isn't refuted, with an open point.
+    ProgramNo(CheckKind, Name, u32, RatPoint),
+    /// A reason of a command's own.
+    Command(Reason),
+    /// Where an exact number left 128 bits.
+    Overflow(Spot),
     /// The count that was exceeded.
     Limited(Limit),
     /// Memory ran out.
@@ -42,19 +43,31 @@ pub struct Status {
     pub answer: Outcome,
 }
 
-impl Outcome {
-    pub fn code(&self) -> u8
-        ensures { result ≡ code_of self.now }
-    {
-        match self {
-            Outcome::Done => 0,
-            Outcome::Usage => 2,
-            Outcome::ReadFault(_) => 3,
-            Outcome::WriteFault => 4,
-            Outcome::Text(_, _, _) => 5,
-            Outcome::Shape(_, _) => 6,
-            Outcome::Limited(_) => 11,
-            Outcome::Memory => 13,
+fn outcome_of_refusal(refusal: Refusal) -> Outcome
+    ensures { result ≡ outcome_of_refusal refusal }
+{
+    match refusal {
+        Refusal::Usage => Outcome::Usage,
+        Refusal::Text(file, kind, place) => Outcome::Text(file, kind, place),
+        Refusal::Shape(kind, item) => Outcome::Shape(kind, item),
+        Refusal::ProgramNo(kind, variable, case_no, point) => {
+            Outcome::ProgramNo(kind, variable, case_no, point)
         }
+        Refusal::Command(reason) => Outcome::Command(reason),
+        Refusal::Overflow(spot) => Outcome::Overflow(spot),
+        Refusal::Limited(limit) => Outcome::Limited(limit),
+    }
+}
+
+/// The answer of a run that ended so.
+pub fn answer_of(ending: Result<(), Stop>) -> Outcome
+    ensures { result ≡ outcome ending }
+{
+    match ending {
+        Ok(()) => Outcome::Done,
+        Err(Stop::Refused(refusal)) => outcome_of_refusal(refusal),
+        Err(Stop::Fault(Call::Read(name))) => Outcome::ReadFault(name),
+        Err(Stop::Fault(_)) => Outcome::WriteFault,
+        Err(Stop::Memory) => Outcome::Memory,
     }
 }

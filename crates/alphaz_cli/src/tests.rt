@@ -2,8 +2,7 @@
 
 use crate::run::alphaz;
 use crate::status::{Outcome, Status};
-use alphabets_read::read_program;
-use az_ast::{Found, Inputs, value_to};
+use az_ast::Reason;
 use az_desk::{Failure, MemoryDesk};
 use az_lin::{Limit, List, Name};
 use std::alloc::Global;
@@ -87,26 +86,211 @@ const CASES: [Case; 12] = [
         code: 3,
         said: "",
     },
-    Case {
-        words: &[],
-        text: RAMP,
-        failure: None,
-        code: 2,
-        said: USAGE,
-    },
-    Case {
-        words: &["eval", "-x"],
-        text: RAMP,
-        failure: None,
-        code: 2,
-        said: USAGE,
-    },
+    // a failure in reading goes before what is bound, and so does the text
     Case {
         words: &["eval", "ramp.ab", "N=1"],
         text: RAMP,
         failure: Some((0, 3)),
+        code: 3,
+        said: "",
+    },
+    Case {
+        words: &["eval", "ramp.ab", "N=1"],
+        text: RAMP,
+        failure: Some((1, 12)),
+        code: 4,
+        said: "alphaz: 8 Un",
+    },
+    Case {
+        words: &["eval", "ramp.ab", "N="],
+        text: RAMP,
+        failure: Some((0, 3)),
         code: 4,
         said: "alp",
+    },
+];
+
+/// Words for the file `ramp.ab`, and what is answered, with its status.
+struct Line {
+    words: &'static [&'static str],
+    code: u8,
+    said: &'static str,
+}
+
+const ROWS: &str = "X,0,1\nX,1,3\nX,2,5\nX,3,7\n";
+
+const LINES: [Line; 34] = [
+    Line {
+        words: &[],
+        code: 2,
+        said: USAGE,
+    },
+    Line {
+        words: &["eval"],
+        code: 2,
+        said: USAGE,
+    },
+    Line {
+        words: &["evals", "ramp.ab"],
+        code: 2,
+        said: USAGE,
+    },
+    Line {
+        words: &["", "ramp.ab"],
+        code: 2,
+        said: USAGE,
+    },
+    Line {
+        words: &["--", "eval", "ramp.ab"],
+        code: 2,
+        said: USAGE,
+    },
+    Line {
+        words: &["eval", "-x"],
+        code: 2,
+        said: USAGE,
+    },
+    Line {
+        words: &["eval", ""],
+        code: 2,
+        said: USAGE,
+    },
+    Line {
+        words: &["eval", "--"],
+        code: 2,
+        said: USAGE,
+    },
+    Line {
+        words: &["eval", "--workers", "1", "ramp.ab"],
+        code: 2,
+        said: USAGE,
+    },
+    Line {
+        words: &["eval", "ramp.ab", "--help"],
+        code: 2,
+        said: USAGE,
+    },
+    Line {
+        words: &["eval", "ramp.ab", ""],
+        code: 2,
+        said: USAGE,
+    },
+    Line {
+        words: &["eval", "ramp.ab", "-"],
+        code: 2,
+        said: USAGE,
+    },
+    Line {
+        words: &["eval", "ramp.ab", "N"],
+        code: 2,
+        said: USAGE,
+    },
+    Line {
+        words: &["eval", "ramp.ab", "N="],
+        code: 2,
+        said: USAGE,
+    },
+    Line {
+        words: &["eval", "ramp.ab", "N=-"],
+        code: 2,
+        said: USAGE,
+    },
+    Line {
+        words: &["eval", "ramp.ab", "N=+1"],
+        code: 2,
+        said: USAGE,
+    },
+    Line {
+        words: &["eval", "ramp.ab", "N=1e3"],
+        code: 2,
+        said: USAGE,
+    },
+    Line {
+        words: &["eval", "ramp.ab", "N=1@a.csv"],
+        code: 2,
+        said: USAGE,
+    },
+    Line {
+        words: &["eval", "ramp.ab", "K=00000000000000000001"],
+        code: 2,
+        said: USAGE,
+    },
+    Line {
+        words: &["eval", "ramp.ab", "=3"],
+        code: 2,
+        said: USAGE,
+    },
+    Line {
+        words: &["eval", "ramp.ab", "1N=3"],
+        code: 2,
+        said: USAGE,
+    },
+    Line {
+        words: &["eval", "ramp.ab", "N M=3"],
+        code: 2,
+        said: USAGE,
+    },
+    Line {
+        words: &["eval", "ramp.ab", "N@"],
+        code: 2,
+        said: USAGE,
+    },
+    Line {
+        words: &["eval", "ramp.ab", "@a.csv"],
+        code: 2,
+        said: USAGE,
+    },
+    Line {
+        words: &["eval", "--", "ramp.ab", "--"],
+        code: 2,
+        said: USAGE,
+    },
+    Line {
+        words: &["eval", "--", "ramp.ab"],
+        code: 0,
+        said: ROWS,
+    },
+    Line {
+        words: &["eval", "ramp.ab", "--"],
+        code: 0,
+        said: ROWS,
+    },
+    // a dash alone, and behind `--` the empty word, are names of files
+    Line {
+        words: &["eval", "-"],
+        code: 3,
+        said: "",
+    },
+    Line {
+        words: &["eval", "--", ""],
+        code: 3,
+        said: "",
+    },
+    Line {
+        words: &["eval", "ramp.ab", "N=9999999999999999999"],
+        code: 8,
+        said: "alphaz: 8 Unknown N\n",
+    },
+    Line {
+        words: &["eval", "ramp.ab", "case_1=-0"],
+        code: 8,
+        said: "alphaz: 8 Unknown case_1\n",
+    },
+    // numbers are set before tables are looked for, each in the order of the words
+    Line {
+        words: &["eval", "ramp.ab", "A@=", "M=1", "N=1"],
+        code: 8,
+        said: "alphaz: 8 Unknown M\n",
+    },
+    Line {
+        words: &["eval", "ramp.ab", "X@x.csv"],
+        code: 8,
+        said: "alphaz: 8 Unknown X\n",
+    },
+    Line {
+        words: &["eval", "ramp.ab", "B@x=1", "A@a"],
+        code: 8,
+        said: "alphaz: 8 Unknown B\n",
     },
 ];
 
@@ -117,7 +301,7 @@ struct Text {
     said: &'static str,
 }
 
-const TEXTS: [Text; 25] = [
+const TEXTS: [Text; 33] = [
     Text {
         text: "affine P {| ]",
         code: 5,
@@ -192,6 +376,48 @@ const TEXTS: [Text; 25] = [
         text: "affine P {|} input A {| || || || || || || || || }; let .",
         code: 11,
         said: "alphaz: 11 Limit Disjuncts\n",
+    },
+    // programs that aren't certified
+    Text {
+        text: "affine C {|} output X {i | -5<=i<=5}; let X[i] = case {| i<=0} : 1; {| i>=0} : 2; esac; .",
+        code: 7,
+        said: "alphaz: 7 ProgramNo Overlap X case 0 at 0\n",
+    },
+    Text {
+        text: "affine C {|} output X {i | -5<=i<=5}; let X[i] = case {| i<0} : 1; {| i>0} : 2; esac; .",
+        code: 7,
+        said: "alphaz: 7 ProgramNo Gap X case 1 at 0\n",
+    },
+    Text {
+        text: "affine D {N | N>=1} input A {i | 0<=i<N}; output B {i | 0<=i<N}; let B[i] = A[i-1]; .",
+        code: 7,
+        said: "alphaz: 7 ProgramNo Outside B case 0 at 1,0\n",
+    },
+    Text {
+        text: "affine U {|} output X {i | 0<=i}; let X[i] = 1; .",
+        code: 7,
+        said: "alphaz: 7 ProgramNo Unbounded X case 0 at 1\n",
+    },
+    Text {
+        text: "affine H {|} output X {|}; let X[] = reduce(+, [k], {| 0<=k} : k); .",
+        code: 7,
+        said: "alphaz: 7 ProgramNo Endless X case 0 at 1\n",
+    },
+    Text {
+        text: "affine E {|} output X {|}; let X[] = case esac; .",
+        code: 5,
+        said: "alphaz: 5 Syntax p.ab at 42\n",
+    },
+    Text {
+        text: "affine E {|} input A {|}; output X {|}; let X[] = case {| 1<=0} : A[]; esac; .",
+        code: 7,
+        said: "alphaz: 7 ProgramNo Gap X case 0 at -\n",
+    },
+    // between the branches there is a half, and no whole number
+    Text {
+        text: "affine V {|} output X {i | 0<=i<=1}; let X[i] = case {| 1152921504606846975*i>=1} : 1; {| 1152921504606846975*i<=1152921504606846974} : 2; esac; .",
+        code: 5,
+        said: NOT_YET,
     },
     // programs that aren't evaluated yet, each for one reason
     Text {
@@ -288,6 +514,92 @@ fn each_case_answers_and_says(rt: HostRuntime) -> Result<(), Fail> {
 }
 
 #[test]
+fn each_line_is_answered(rt: HostRuntime) -> Result<(), Fail> {
+    let alloc = rt.alloc();
+    for line in &LINES {
+        let text = List::from_vec(Vec::from_slice(alloc, RAMP.as_bytes())?);
+        let mut desk = desk_with(alloc, "ramp.ab", text, None)?;
+        let status = run(alloc, line.words, &mut desk)?;
+        assert_eq!(rt; status.code, line.code);
+        assert_eq!(rt; desk.contents().said(), line.said.as_bytes());
+    }
+    Ok(())
+}
+
+const TWO: &str =
+    "affine Two {N,M | N>=1} input A {i | 0<=i<N}; output Y {i | 0<=i<N}; let Y[i] = A[i] + M; .";
+
+/// Bindings of the program `TWO`, which isn't evaluated yet, and what is answered, with its status.
+const BOUND: [Line; 8] = [
+    Line {
+        words: &["eval", "p.ab"],
+        code: 5,
+        said: NOT_YET,
+    },
+    Line {
+        words: &["eval", "p.ab", "N=3", "M=-2", "A@a.csv"],
+        code: 5,
+        said: NOT_YET,
+    },
+    Line {
+        words: &["eval", "p.ab", "A@a.csv", "N=1099511627775"],
+        code: 5,
+        said: NOT_YET,
+    },
+    Line {
+        words: &["eval", "p.ab", "A@a.csv", "N=1099511627776"],
+        code: 11,
+        said: "alphaz: 11 Limit Coordinate\n",
+    },
+    Line {
+        words: &["eval", "p.ab", "M=-1099511627776", "K=1"],
+        code: 11,
+        said: "alphaz: 11 Limit Coordinate\n",
+    },
+    Line {
+        words: &["eval", "p.ab", "K=1099511627776"],
+        code: 8,
+        said: "alphaz: 8 Unknown K\n",
+    },
+    Line {
+        words: &["eval", "p.ab", "Y@a.csv", "N=1"],
+        code: 8,
+        said: "alphaz: 8 Unknown Y\n",
+    },
+    Line {
+        words: &["eval", "p.ab", "N=1", "A@a.csv", "N@n.csv"],
+        code: 8,
+        said: "alphaz: 8 Unknown N\n",
+    },
+];
+
+#[test]
+fn each_binding_is_answered(rt: HostRuntime) -> Result<(), Fail> {
+    let alloc = rt.alloc();
+    for line in &BOUND {
+        let text = List::from_vec(Vec::from_slice(alloc, TWO.as_bytes())?);
+        let mut desk = desk_with(alloc, "p.ab", text, None)?;
+        let status = run(alloc, line.words, &mut desk)?;
+        assert_eq!(rt; status.code, line.code);
+        assert_eq!(rt; desk.contents().said(), line.said.as_bytes());
+    }
+    Ok(())
+}
+
+#[test]
+fn an_unknown_name_is_answered(rt: HostRuntime) -> Result<(), Fail> {
+    let alloc = rt.alloc();
+    let text = List::from_vec(Vec::from_slice(alloc, RAMP.as_bytes())?);
+    let mut desk = desk_with(alloc, "ramp.ab", text, None)?;
+    let status = run(alloc, &["eval", "ramp.ab", "N=1"], &mut desk)?;
+    match &status.answer {
+        Outcome::Command(Reason::Unknown(name)) => assert_eq!(rt; name.as_str(), "N"),
+        _ => assert!(rt; false),
+    }
+    Ok(())
+}
+
+#[test]
 fn each_text_is_answered(rt: HostRuntime) -> Result<(), Fail> {
     let alloc = rt.alloc();
     for case in &TEXTS {
@@ -325,18 +637,5 @@ fn a_long_file_is_refused(rt: HostRuntime) -> Result<(), Fail> {
         b"alphaz: 11 Limit File\n".as_slice()
     );
     assert!(rt; matches!(&status.answer, Outcome::Limited(Limit::File)));
-    Ok(())
-}
-
-#[test]
-fn the_plain_evaluation_has_the_printed_values(rt: HostRuntime) -> Result<(), Fail> {
-    let alloc = rt.alloc();
-    let program = read_program(alloc, RAMP.as_bytes())?;
-    let equation = program.equations().first().ok_or("an equation")?;
-    let inputs = Inputs::new(alloc);
-    for (index, value) in [(0, 1), (1, 3), (2, 5), (3, 7)] {
-        let found = value_to(alloc, &program, &inputs, 0, &equation.body, &[index])?;
-        assert_eq!(rt; found, Found::Value(value));
-    }
     Ok(())
 }

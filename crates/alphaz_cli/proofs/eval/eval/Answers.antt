@@ -1,14 +1,33 @@
-use Rattle.std.proofs.Common.{◌∙◌}
-use Rattle.std.specs.Prelude.{string_bytes}
-use Rattle.alphaz_cli.proofs.Endings.{after_read_text, after_read_long}
+use Rattle.std.proofs.Common.{◌≡◌, List, ℕ, rules, subst}
+use Rattle.std.specs.Prelude.{Ok, Err}
+use Rattle.session_state.proofs.Taking.{stops_first, goes_on, alone_takes, left_alone, left_stop}
+use Rattle.session_state.specs.Steps.{Takes, TakesAlone}
+use Rattle.az_ast.specs.System.{System}
+use Rattle.alphaz_cli.specs.Evaluation.{evaluated}
+use Rattle.alphaz_cli.specs.Programs.{read_alphabets}
 use Rattle.alphaz_cli.proofs.eval.eval.Goals as goal
 
-pub returns-in-Ok-listing : goal.returns-in-Ok-listing
-returns-in-Ok-listing g c =
-    after_read_text c.args.file.now c.in-Ok.name c.as_slice.result.now c.in-Ok-read.text (string_bytes c.in-Ok-listing.listing) c.as_bytes.result.now _ _ _
-    c.in-Ok-listing.answer c.say.result c.in-Ok.ensures.ok c.as_slice.ensures c.as_bytes.ensures.value c.in-Ok-read.ensures.answer c.in-Ok-listing.ensures c.say.ensures
+pub returns-in_err-checked-clause-answer : goal.returns-in_err-checked-clause-answer
+returns-in_err-checked-clause-answer g c =
+    let handed : c.from_residual.result ≡ Err c.in_err-checked.field-0.0 = search rules in
+    rw handed (stops_first (λ call. Unit {0}) (read_alphabets (g.D.Desk.seen c.args.desk.now).files c.args.asked.now.program) (evaluated c.args.asked.now)
+    c.in_err-checked.field-0.0 (subst (λ (f : List ℕ). Takes (read_alphabets (g.D.Desk.seen c.args.desk.now).files f) (Err c.in_err-checked.field-0.0)) c.as_str.ensures c.in_err-checked.ensures.answer))
 
-pub returns-in-Err-TooLong : goal.returns-in-Err-TooLong
-returns-in-Err-TooLong g c =
-    after_read_long c.args.file.now c.as_bytes-in-Err-TooLong.result.now _ _ _ c.say-in-Err-TooLong.result c.in-Err-TooLong.field-0 c.in-Err-TooLong.field-0-is
-    (c.as_bytes-in-Err-TooLong.ensures.value ∙ c.in-Ok-limit.ensures) c.in-Err-TooLong.ensures.answer c.say-in-Err-TooLong.ensures
+pub returns-in_err-checked-clause-left : goal.returns-in_err-checked-clause-left
+returns-in_err-checked-clause-left g c =
+    let handed : c.from_residual.result ≡ Err c.in_err-checked.field-0.0 = search rules in
+    rw handed (left_stop System (List ℕ) _ _ _ c.in_err-checked.ensures.left)
+
+pub returns-clause-answer : goal.returns-clause-answer
+returns-clause-answer g c =
+    let taken : TakesAlone (evaluated c.args.asked.now c.in_ok-checked.checked) c.evaluated.result =
+    subst (λ (p : System). TakesAlone (evaluated c.args.asked.now p) c.evaluated.result) c.program.ensures.value c.evaluated.ensures in
+    goes_on (λ call. Unit {0}) (read_alphabets (g.D.Desk.seen c.args.desk.now).files c.args.asked.now.program) (evaluated c.args.asked.now)
+    c.in_ok-checked.checked c.evaluated.result (subst (λ (f : List ℕ). Takes (read_alphabets (g.D.Desk.seen c.args.desk.now).files f) (Ok c.in_ok-checked.checked)) c.as_str.ensures c.in_ok-checked.ensures.answer)
+    (alone_takes (evaluated c.args.asked.now c.in_ok-checked.checked) c.evaluated.result taken)
+
+pub returns-clause-left : goal.returns-clause-left
+returns-clause-left g c =
+    let taken : TakesAlone (evaluated c.args.asked.now c.in_ok-checked.checked) c.evaluated.result =
+    subst (λ (p : System). TakesAlone (evaluated c.args.asked.now p) c.evaluated.result) c.program.ensures.value c.evaluated.ensures in
+    left_alone (evaluated c.args.asked.now c.in_ok-checked.checked) _ _ c.evaluated.result taken c.in_ok-checked.ensures.left

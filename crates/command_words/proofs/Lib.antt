@@ -1,0 +1,5 @@
+pub mod BoundWords
+pub mod Cuts
+pub mod Digits
+pub mod OneEvaluation
+pub mod PlainWords

@@ -1,0 +1,4 @@
+pub mod CoordinateText
+pub mod Taking
+pub mod Ended
+pub mod Once

@@ -1,0 +1,9 @@
+pub mod Codes
+pub mod Coordinates
+pub mod Variants
+pub mod Reasons
+pub mod Lines
+pub mod Steps
+pub mod Endings
+pub mod Texts
+pub mod Settings

@@ -1,0 +1,39 @@
+-- The lines of refusals: what stands before them, the code, a space, the text and a line feed.
+use Rattle.std.specs.Prelude.{ℕ, List, ◌++◌, codes}
+use Rattle.std.specs.Fmt.{decimal}
+use Rattle.session_state.specs.Codes.{code}
+use Rattle.session_state.specs.Coordinates.{rational_point}
+use Rattle.session_state.specs.Reasons.{reason_text}
+use Rattle.session_state.specs.Variants.{text_word, shape_word, check_word, limit_word}
+use Rattle.session_state.specs.declared.refusal.Refusal.{Refusal}
+use Rattle.session_state.specs.declared.refusal.Refusal.TheVariants.{Usage, Text, Shape, ProgramNo, Command, Overflow, Limited}
+use Rattle.session_state.specs.declared.refusal.Spot.{Spot}
+use Rattle.session_state.specs.declared.refusal.Spot.TheVariants.{Check, Invert, Scan, Piece, Schedule, Project}
+
+abbrev pub usage_text : List ℕ
+usage_text = codes "usage: eval PROGRAM [NAME=N or NAME@FILE]... ; run SCRIPT [--workers K] ; check SCRIPT CERTIFICATE ; make N [--workers K]"
+
+abbrev pub spot_text : Spot → List ℕ
+spot_text (Check kind variable number) = codes "check " ++ (check_word kind ++ (codes " " ++ (variable ++ (codes " case " ++ decimal number))))
+spot_text Invert = codes "invert"
+spot_text Scan = codes "scan"
+spot_text (Piece number) = codes "piece " ++ decimal number
+spot_text Schedule = codes "schedule"
+spot_text Project = codes "project"
+
+abbrev pub refusal_text : Refusal → List ℕ
+refusal_text Usage = usage_text
+refusal_text (Text file kind place) = text_word kind ++ (codes " " ++ (file ++ (codes " at " ++ decimal place)))
+refusal_text (Shape kind item) = codes "Shape " ++ (shape_word kind ++ (codes " item " ++ decimal item))
+refusal_text (ProgramNo kind variable number point) =
+    codes "ProgramNo " ++ (check_word kind ++ (codes " " ++ (variable ++ (codes " case " ++ (decimal number ++ (codes " at " ++ rational_point point))))))
+refusal_text (Command reason) = reason_text reason
+refusal_text (Overflow spot) = codes "Overflow " ++ spot_text spot
+refusal_text (Limited limit) = codes "Limit " ++ limit_word limit
+
+abbrev pub line : List ℕ → Refusal → List ℕ
+line front refusal = front ++ (decimal (code refusal) ++ (codes " " ++ (refusal_text refusal ++ codes "\n")))
+
+-- what stands before the line of a refusal that is no command's
+abbrev pub program_front : List ℕ
+program_front = codes "alphaz: "

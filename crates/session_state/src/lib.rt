@@ -1,0 +1,22 @@
+//! What all commands share: why they are refused, how they end, and what is then said.
+//!
+//! `specs/Steps.antt` says how a command goes through its tests, `specs/Endings.antt` what stands at the
+//! desk when it ended. `specs/Codes.antt` and `specs/Lines.antt` are the tables of codes and lines.
+#![tactic(auto)]
+
+mod coordinates;
+mod lines;
+mod reasons;
+mod refusal;
+mod saying;
+mod settings;
+mod stop;
+mod texts;
+mod variants;
+
+pub use lines::line;
+pub use refusal::{Refusal, Spot, TextKind};
+pub use saying::say;
+pub use settings::{set_parameter, unset};
+pub use stop::{Stop, name, status};
+pub use texts::text_of;

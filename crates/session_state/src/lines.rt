@@ -1,0 +1,93 @@
+//! The line of each refusal.
+
+ghost use Rattle.std.specs.Prelude.{◌≡◌, IfOk, string_bytes};
+ghost use Rattle.session_state.specs.Codes.{code};
+ghost use Rattle.session_state.specs.Lines.{spot_text, refusal_text, line};
+
+use crate::coordinates::rational_point;
+use crate::reasons::reason_text;
+use crate::variants::{check_word, limit_word, shape_word, text_word};
+use crate::{Refusal, Spot};
+use std::alloc::{AllocError, Global};
+
+const USAGE: &str =
+    "usage: eval PROGRAM [NAME=N or NAME@FILE]... ; run SCRIPT [--workers K] ; check SCRIPT CERTIFICATE ; make N [--workers K]";
+
+impl Refusal {
+    /// The code with which its line begins, and which is the exit status of a run that it ends.
+    pub fn code(&self) -> u8
+        ensures { result ≡ code self.now }
+    {
+        match self {
+            Refusal::Usage => 2,
+            Refusal::Text(_, _, _) => 5,
+            Refusal::Shape(_, _) => 6,
+            Refusal::ProgramNo(_, _, _, _) => 7,
+            Refusal::Command(_) => 8,
+            Refusal::Overflow(_) => 10,
+            Refusal::Limited(_) => 11,
+        }
+    }
+}
+
+fn spot_text(alloc: Global, spot: &Spot) -> Result<String, AllocError>
+    ensures { IfOk result (λ text. string_bytes text ≡ spot_text spot.now) }
+{
+    match spot {
+        Spot::Check {
+            kind,
+            variable,
+            case_no,
+        } => {
+            let word = check_word(*kind);
+            let variable = variable.as_str();
+            format!(in alloc; "check {word} {variable} case {case_no}")
+        }
+        Spot::Invert => String::from_str(alloc, "invert"),
+        Spot::Scan => String::from_str(alloc, "scan"),
+        Spot::Piece(number) => format!(in alloc; "piece {number}"),
+        Spot::Schedule => String::from_str(alloc, "schedule"),
+        Spot::Project => String::from_str(alloc, "project"),
+    }
+}
+
+fn refusal_text(alloc: Global, refusal: &Refusal) -> Result<String, AllocError>
+    ensures { IfOk result (λ text. string_bytes text ≡ refusal_text refusal.now) }
+{
+    match refusal {
+        Refusal::Usage => String::from_str(alloc, USAGE),
+        Refusal::Text(file, kind, place) => {
+            let word = text_word(*kind);
+            let file = file.as_str();
+            format!(in alloc; "{word} {file} at {place}")
+        }
+        Refusal::Shape(kind, item) => {
+            let word = shape_word(*kind);
+            format!(in alloc; "Shape {word} item {item}")
+        }
+        Refusal::ProgramNo(kind, variable, case_no, point) => {
+            let word = check_word(*kind);
+            let variable = variable.as_str();
+            let point = rational_point(alloc, point)?;
+            format!(in alloc; "ProgramNo {word} {variable} case {case_no} at {point}")
+        }
+        Refusal::Command(reason) => reason_text(alloc, reason),
+        Refusal::Overflow(spot) => {
+            let spot = spot_text(alloc, spot)?;
+            format!(in alloc; "Overflow {spot}")
+        }
+        Refusal::Limited(limit) => {
+            let word = limit_word(*limit);
+            format!(in alloc; "Limit {word}")
+        }
+    }
+}
+
+/// The line of a refusal, behind what says where it comes from: `alphaz: `, or a command's number and name.
+pub fn line(alloc: Global, front: &str, refusal: &Refusal) -> Result<String, AllocError>
+    ensures { IfOk result (λ text. string_bytes text ≡ line front.now refusal.now) }
+{
+    let code = refusal.code();
+    let text = refusal_text(alloc, refusal)?;
+    format!(in alloc; "{front}{code} {text}\n")
+}

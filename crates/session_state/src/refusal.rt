@@ -1,0 +1,53 @@
+//! Why a run or a command is refused.
+
+use az_ast::{Reason, ShapeKind};
+use az_lin::{Limit, Name, RatPoint};
+use domain_check::CheckKind;
+
+/// What is wrong with a text.
+#[derive(Debug, Clone, Copy, PartialEq, Eq)]
+pub enum TextKind {
+    Syntax,
+    BadByte,
+    WideNumber,
+}
+
+/// Where an exact number left 128 bits.
+#[derive(Debug, Drop)]
+pub enum Spot {
+    /// In deciding this case of the checks of a variable's domain or equation.
+    Check {
+        kind: CheckKind,
+        variable: Name,
+        case_no: u32,
+    },
+    /// In inverting a map.
+    Invert,
+    /// In scanning a domain.
+    Scan,
+    /// In deciding whether this piece of the removed points is empty.
+    Piece(u32),
+    /// In looking for a schedule.
+    Schedule,
+    /// In projecting a reduction's domain.
+    Project,
+}
+
+/// A run or command that is refused changes nothing but what is said of it.
+#[derive(Debug, Drop)]
+pub enum Refusal {
+    /// The words are not in the word grammar.
+    Usage,
+    /// The file, what is wrong with its text, and the place in bytes.
+    Text(Name, TextKind, usize),
+    /// The rule on a program's shape that fails, and the item at which it does.
+    Shape(ShapeKind, u32),
+    /// The check, the variable, and the number of the first case that isn't refuted, with a point that is
+    /// open for it.
+    ProgramNo(CheckKind, Name, u32, RatPoint),
+    /// A reason of the command's own.
+    Command(Reason),
+    Overflow(Spot),
+    /// The count that was exceeded.
+    Limited(Limit),
+}

@@ -1,0 +1,24 @@
+//! The text of a file, as commands read it.
+
+ghost use Rattle.session_state.specs.Endings.{IsLeft};
+ghost use Rattle.session_state.specs.Steps.{Takes};
+ghost use Rattle.session_state.specs.Texts.{text_of};
+
+use crate::{Refusal, Stop, name};
+use az_desk::{Call, Desk, DeskFault};
+use az_lin::{Limit, List};
+use std::alloc::Global;
+
+/// Reads the whole file.
+pub fn text_of<D: Desk>(alloc: Global, desk: &mut D, file: &str) -> Result<List<u8>, Stop>
+    ensures answer { Takes (text_of (D.seen desk.old).files file.now) result }
+    ensures left { IsLeft (D.seen desk.old) result (D.seen desk.new) }
+{
+    let name = name(alloc, file)?;
+    match desk.read(alloc, file) {
+        Ok(text) => Ok(text),
+        Err(DeskFault::TooLong) => Err(Stop::Refused(Refusal::Limited(Limit::File))),
+        Err(DeskFault::Failed) => Err(Stop::Fault(Call::Read(name))),
+        Err(DeskFault::Memory) => Err(Stop::Memory),
+    }
+}

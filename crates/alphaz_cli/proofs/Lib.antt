@@ -4,5 +4,6 @@ pub mod Intervals
 pub mod OneCertificate
 pub mod OneRun
 pub mod Programs
+pub mod Ramp
 pub mod RowText
 pub mod Stops

@@ -8,7 +8,7 @@ use Rattle.az_ast.specs.declared.program.Equation.{Equation}
 use Rattle.az_ast.specs.declared.program.Role.{Role}
 use Rattle.az_ast.specs.declared.program.Role.TheVariants.{Output}
 use Rattle.az_ast.specs.declared.program.Variable.{Variable}
-use Rattle.az_ast.specs.FirstForm.{interval, no_parameters, ramp}
+use Rattle.alphaz_cli.specs.FirstForm.{interval, no_parameters, ramp}
 use Rattle.az_ast.specs.System.{System}
 use Rattle.alphaz_cli.specs.Evaluable.{IsInterval, IsSlope, IsEvaluable, Picks}
 

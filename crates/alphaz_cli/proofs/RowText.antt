@@ -11,10 +11,10 @@ use Rattle.alphaz_cli.specs.Rows.{count_between}
 use Rattle.std.specs.Fmt.{decimal, signed_decimal}
 use Rattle.std.proofs.lemmas.Int.{ints, to_z-of_z, fits_signed_from_abs, SFits-int_wrap}
 use Rattle.az_lin.specs.Affine.{Affine, value_at}
-use Rattle.az_ast.specs.FirstForm.{ramp, ramp_lines}
+use Rattle.alphaz_cli.specs.FirstForm.{ramp, ramp_lines}
 use Rattle.az_ast.specs.Operators.{wrapped}
 use Rattle.az_ast.specs.OutputRows.{row_of, AreOutputRows}
-use Rattle.az_ast.proofs.Ramp.{ramp_lines-more, ramp-rows, ramp-no_rows}
+use Rattle.alphaz_cli.proofs.Ramp.{ramp_lines-more, ramp-rows, ramp-no_rows}
 
 pub row_text : (name : List ℕ) (i : ℕ) (v : ℤ) → row_of name (pos i ∷ []) v ≡ name ++ (44 ∷ (decimal i ++ (44 ∷ (signed_decimal v ++ 10 ∷ []))))
 row_text name i v = simp (append_assoc, append-nil)

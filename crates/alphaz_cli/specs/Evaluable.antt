@@ -2,7 +2,7 @@
 -- equation one index expression of its index. The numbers are at least 0 and below a million.
 use Rattle.std.specs.Prelude.{◌≡◌, ℕ, ◌<◌, ℤ, pos, List, [], ◌∷◌}
 use Rattle.az_lin.specs.Affine.{Affine, Union}
-use Rattle.az_ast.specs.FirstForm.{interval, ramp}
+use Rattle.alphaz_cli.specs.FirstForm.{interval, ramp}
 use Rattle.az_ast.specs.System.{System}
 
 abbrev pub IsSmall : ℤ → ℕ → Type 0

@@ -2,7 +2,7 @@
 
 ghost use Rattle.std.specs.Prelude.{◌≡◌, ◌↔◌, ℕ, ℤ, ◌<◌, pos, [], ◌∷◌, IsTrue, IfSome, IfNone};
 ghost use Rattle.az_lin.specs.Affine.{Affine, IsEntry};
-ghost use Rattle.az_ast.specs.FirstForm.{no_parameters};
+ghost use Rattle.alphaz_cli.specs.FirstForm.{no_parameters};
 ghost use Rattle.az_ast.specs.declared.expr.Expr.TheVariants.{Index};
 ghost use Rattle.alphaz_cli.specs.Evaluable.{IsSmall, IsInterval, IsSlope, IsEvaluable, Picks};
 

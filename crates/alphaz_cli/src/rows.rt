@@ -2,7 +2,7 @@
 
 ghost use Rattle.std.specs.Prelude.{◌≡◌, ◌+◌, ◌<◌, ◌∷◌, [], ◌++◌, ℤ, pos, length, OnOk, IfOk, IfSome, IfNone, string_bytes};
 ghost use Rattle.std.specs.FinMap.{empty};
-ghost use Rattle.az_ast.specs.FirstForm.{ramp_lines};
+ghost use Rattle.alphaz_cli.specs.FirstForm.{ramp_lines};
 ghost use Rattle.az_ast.specs.OutputRows.{row_of, AreOutputRows};
 ghost use Rattle.az_ast.specs.System.{System};
 ghost use Rattle.alphaz_cli.specs.Evaluable.{Picks};

@@ -7,8 +7,7 @@ use Rattle.az_ast.specs.declared.program.Role.{Role}
 use Rattle.az_ast.specs.declared.program.Role.TheVariants.{Input, Output, Local}
 use Rattle.az_ast.specs.declared.program.Equation.{Equation}
 use Rattle.az_ast.specs.declared.program.Variable.{Variable}
-use Rattle.az_ast.specs.Inner.Chosen.{IsInput}
-use Rattle.az_ast.specs.Meaning.{Values, Reads, TermGives, ChoiceGives, RoleGives, ReadGives, equation_of, body_of, ValueBelow, ValueTo, ReadTo, Means}
+use Rattle.az_ast.specs.Meaning.{Values, Reads, TermGives, ChoiceGives, RoleGives, IsInput, ReadGives, equation_of, body_of, ValueBelow, ValueTo, ReadTo, Means}
 use Rattle.az_ast.specs.Points.{IsPointOf}
 use Rattle.az_ast.specs.System.{System}
 use Rattle.az_ast.specs.Tables.{Tables, InputGives}

@@ -8,11 +8,9 @@ pub mod LoadLaws
 pub mod MapLemmas
 pub mod Members
 pub mod OperatorLaws
-pub mod PlainSteps
 pub mod Prefix
 pub mod ProgramLaws
 pub mod ProgramNames
-pub mod Ramp
 pub mod ReadLemmas
 pub mod RowLaws
 pub mod SameTerms
@@ -21,5 +19,4 @@ pub mod TableLemmas
 pub mod Terms
 pub mod TermShapes
 pub mod TwoPrograms
-pub mod ValueLemmas
 pub mod Walks

@@ -1,13 +1,11 @@
--- What a read of a declared variable has, and where it stops.
-use Rattle.std.proofs.Common.{◌≡◌, ℕ, List, ◌++◌, length, Some, None, Option, sym, ap, subst, inl, inr}
-use Rattle.std.specs.Prelude.{ℤ, slice_get, MatchOption, ◌⊎◌, option_map}
+-- What a read of a declared variable has.
+use Rattle.std.proofs.Common.{◌≡◌, ℕ, List, ◌++◌, length, Some, Option, sym, ap, subst}
+use Rattle.std.specs.Prelude.{ℤ, slice_get, MatchOption, option_map}
 use Rattle.az_ast.specs.declared.program.Equation.{Equation}
 use Rattle.az_ast.specs.declared.program.Variable.{Variable}
 use Rattle.az_ast.specs.declared.program.Role.{Role}
 use Rattle.az_ast.specs.declared.program.Role.TheVariants.{Input, Output, Local}
-use Rattle.az_ast.specs.Inner.Chosen.{IsInput}
-use Rattle.az_ast.specs.Meaning.{Values, RoleGives, ReadGives, equation_of, body_of}
-use Rattle.az_ast.specs.Plain.{IsUnreadable, ReadStops}
+use Rattle.az_ast.specs.Meaning.{Values, RoleGives, IsInput, ReadGives, equation_of, body_of}
 use Rattle.az_ast.specs.Points.{IsPointOf}
 use Rattle.az_ast.specs.System.{System}
 use Rattle.az_ast.specs.Tables.{Tables, InputGives}
@@ -19,9 +17,6 @@ MatchOption-at P o x e h = subst (λ q. MatchOption q ⊥ P) e h
 
 pub at-MatchOption : {A : Type 0} (P : A → Type 0) (o : Option A) (x : A) → o ≡ Some x → P x → MatchOption o ⊥ P
 at-MatchOption P o x e h = subst (λ q. MatchOption q ⊥ P) (sym e) h
-
-pub MatchOption-none : {A : Type 0} (P : A → Type 0) (o : Option A) → o ≡ None → MatchOption o ⊥ P → ⊥
-MatchOption-none P o e h = subst (λ q. MatchOption q ⊥ P) e h
 
 -- what an input has, and an output or local
 pub RoleGives-input : (role : Role) (A B : Type 0) → IsInput role → RoleGives role A B → A
@@ -50,10 +45,6 @@ module _ (p : System) (tables : Tables) (x : ℕ) (variable : Variable) (declare
       IsPointOf (length p.params) variable.domain params k ×
       RoleGives variable.role (InputGives tables x k v) (MatchOption (body_of p.equations x) ⊥ (λ body. bodies body (params ++ k) v))
 
-  abbrev Stops : (Term → List ℤ → Type 0) → Variable → Type 0
-  Stops bodies variable =
-      IsUnreadable (length p.params) variable.domain.width (params ++ k) ⊎ RoleGives variable.role ⊥ (MatchOption (body_of p.equations x) ⊥ (λ body. bodies body (params ++ k)))
-
   body_is : (equation : Equation) → equation_of p.equations x ≡ Some equation → body_of p.equations x ≡ Some (term equation.body)
   body_is equation e = ap (option_map (λ equation. term equation.body)) e
 
@@ -63,18 +54,11 @@ module _ (p : System) (tables : Tables) (x : ℕ) (variable : Variable) (declare
   pub parts-read : (bodies : Term → Values) (v : ℤ) → Gives bodies v variable → ReadGives p tables bodies x params k v
   parts-read bodies v h = at-MatchOption (Gives bodies v) (slice_get p.variables x) variable declared h
 
-  pub unreadable-stops : (bodies : Term → List ℤ → Type 0) → IsUnreadable (length p.params) variable.domain.width (params ++ k) → ReadStops p bodies x params k
-  unreadable-stops bodies u = at-MatchOption (Stops bodies) (slice_get p.variables x) variable declared (inl u)
-
   pub input-gives : (bodies : Term → Values) (v : ℤ) → IsInput variable.role → IsPointOf (length p.params) variable.domain params k → InputGives tables x k v → ReadGives p tables bodies x params k v
   input-gives bodies v i h g = parts-read bodies v (h, RoleGives-from_input variable.role _ _ i g)
 
   pub gives-input : (bodies : Term → Values) (v : ℤ) → IsInput variable.role → ReadGives p tables bodies x params k v → InputGives tables x k v
   gives-input bodies v i g = RoleGives-input variable.role _ _ i (read-parts bodies v g).1
-
-  pub no_body-none : (bodies : Term → Values) (v : ℤ) → (IsInput variable.role → ⊥) → equation_of p.equations x ≡ None → ReadGives p tables bodies x params k v → ⊥
-  no_body-none bodies v i e g =
-      MatchOption-none (λ body. bodies body (params ++ k) v) (body_of p.equations x) (ap (option_map (λ equation. term equation.body)) e) (RoleGives-body variable.role _ _ i (read-parts bodies v g).1)
 
   module _ (equation : Equation) (no_input : IsInput variable.role → ⊥) (found : equation_of p.equations x ≡ Some equation) where
     pub body-gives : (bodies : Term → Values) (v : ℤ) → IsPointOf (length p.params) variable.domain params k → bodies (term equation.body) (params ++ k) v → ReadGives p tables bodies x params k v
@@ -84,12 +68,3 @@ module _ (p : System) (tables : Tables) (x : ℕ) (variable : Variable) (declare
     pub gives-body : (bodies : Term → Values) (v : ℤ) → ReadGives p tables bodies x params k v → bodies (term equation.body) (params ++ k) v
     gives-body bodies v g =
         MatchOption-at (λ body. bodies body (params ++ k) v) (body_of p.equations x) (term equation.body) (body_is equation found) (RoleGives-body variable.role _ _ no_input (read-parts bodies v g).1)
-
-    pub body-stops : (bodies : Term → List ℤ → Type 0) → bodies (term equation.body) (params ++ k) → ReadStops p bodies x params k
-    body-stops bodies s =
-        at-MatchOption (Stops bodies) (slice_get p.variables x) variable declared
-        (inr (RoleGives-from_body variable.role _ _ no_input (at-MatchOption (λ body. bodies body (params ++ k)) (body_of p.equations x) (term equation.body) (body_is equation found) s)))
-
--- a read of what is not declared has no value
-pub undeclared-none : (p : System) (tables : Tables) (x : ℕ) (params k : List ℤ) (bodies : Term → Values) (v : ℤ) → slice_get p.variables x ≡ None → ReadGives p tables bodies x params k v → ⊥
-undeclared-none p tables x params k bodies v e g = MatchOption-none _ (slice_get p.variables x) e g

@@ -1,3 +1,2 @@
 -- Words about inner functions, which no public contract cites.
-pub mod Chosen
 pub mod KeptRows

@@ -1,14 +1,12 @@
 pub mod Accesses
 pub mod Certified
 pub mod Dependences
-pub mod FirstForm
 pub mod Inner
 pub mod Meaning
 pub mod Nodes
 pub mod Operators
 pub mod OutputRows
 pub mod Placed
-pub mod Plain
 pub mod Points
 pub mod Rows
 pub mod Shapes

@@ -69,6 +69,9 @@ RoleGives Input table body = table
 RoleGives Output table body = body
 RoleGives Local table body = body
 
+abbrev pub IsInput : Role → Type 0
+IsInput role = RoleGives role (Unit {0}) ⊥
+
 abbrev pub ReadGives : System → Tables → (Term → Values) → Reads
 ReadGives p tables bodies x params k v =
     MatchOption (slice_get p.variables x) ⊥ (λ variable.

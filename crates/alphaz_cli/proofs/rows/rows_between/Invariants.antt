@@ -1,6 +1,6 @@
 use Rattle.std.proofs.Common.{◌≡◌, ◌∷◌, [], ℤ, pos}
 use Rattle.std.specs.Prelude.{string_bytes}
-use Rattle.az_ast.specs.FirstForm.{ramp_lines}
+use Rattle.alphaz_cli.specs.FirstForm.{ramp_lines}
 use Rattle.alphaz_cli.proofs.rows.rows_between.Given as goal
 
 abbrev pub invariant-loop-step : goal.invariant-loop-step

@@ -14,7 +14,7 @@ use Rattle.az_ast.specs.System.{System}
 use Rattle.az_ast.specs.Meaning.{Means}
 use Rattle.az_ast.specs.OutputRows.{row_of, ArePointRows, AreOutputRows}
 use Rattle.az_lin.specs.Affine.{Affine, Polyhedron, Holds, HoldsSome}
-use Rattle.az_ast.specs.FirstForm.{interval, ramp, points_from, ramp_lines}
+use Rattle.alphaz_cli.specs.FirstForm.{interval, ramp, points_from, ramp_lines}
 
 row_low : ℤ → Affine
 row_low low = record { coefs = pos 1 ∷ []; konst = neg_ℤ low }

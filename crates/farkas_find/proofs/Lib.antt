@@ -33,6 +33,7 @@ pub mod Room
 pub mod Fills
 pub mod Opposite
 pub mod Untidied
+pub mod Used
 pub mod Open
 pub mod Ending
 pub mod Winning

@@ -1,7 +1,7 @@
 -- The derivation of a row, out of the log of all steps that were made. The log's steps are numbered on from the given
 -- rows, as the rows that they make. A step is needed if its row is the one asked for, or if a later needed step names
 -- it. The needed steps stay in order, and their rows are numbered anew.
-use Rattle.std.specs.Prelude.{ℕ, ◌+◌, ◌-◌, ◌<◌, Bool, ◌||◌, nat_eq, nat_lt, cond, List, [], ◌∷◌, length, map, take, count_by, slice_index_or, pos}
+use Rattle.std.specs.Prelude.{◌≡◌, true, ℕ, ◌+◌, ◌-◌, ◌<◌, Bool, ◌||◌, nat_eq, nat_lt, cond, List, [], ◌∷◌, length, map, take, count_by, slice_index_or, pos}
 use Rattle.std.specs.List.{list_any, items_where_true}
 use Rattle.az_lin.specs.declared.step.Step.{Step}
 
@@ -40,3 +40,8 @@ pub record NamesBefore (number : ℕ) (step : Step) : Type 0 where
 
 abbrev pub EachNamesBefore : ℕ → List Step → Type 0
 EachNamesBefore given steps = (k : ℕ) (d : Step) → k < length steps → NamesBefore (given + k) (slice_index_or steps k d)
+
+-- no step is superfluous: each but the last makes a row that a later one names
+abbrev pub UsesEachStep : ℕ → List Step → Type 0
+UsesEachStep given steps = (k : ℕ) (d : Step) → k + 1 < length steps
+    → (l : ℕ) × (k < l) × (l < length steps) × (names (given + k) (slice_index_or steps l d) ≡ true)

@@ -9,7 +9,7 @@ use Rattle.az_lin.specs.declared.step.RatPoint.{RatPoint}
 use Rattle.az_lin.specs.declared.limit.Limit.TheVariants.{Rows as TooManyRows}
 use Rattle.farkas_find.specs.Choosing.{free_columns}
 use Rattle.farkas_find.specs.Stages.{given_rows, Finishes, LeavesRangeAt, PassesLimit}
-use Rattle.farkas_find.specs.Needed.{derivation_of}
+use Rattle.farkas_find.specs.Needed.{derivation_of, UsesEachStep}
 use Rattle.farkas_find.specs.BackSubstitution.{point_of, IsFoundWide}
 use Rattle.farkas_find.specs.Point.{rounded_system}
 use Rattle.farkas_find.specs.declared.numbered.Numbered.{Numbered}
@@ -87,3 +87,8 @@ IsNoOverflow (Err Memory) = Unit {0}
 abbrev pub ExcludesOther : Polyhedron → Decision → Type 0
 ExcludesOther system (RefutedBy derivation) = (point : RatPoint) → ¬ IsOpen system point
 ExcludesOther system (Point point) = (steps : List Step) → ¬ IsRefutedBy system steps
+
+-- no step of the derivation is superfluous
+abbrev pub IsFrugal : Polyhedron → Decision → Type 0
+IsFrugal system (RefutedBy derivation) = UsesEachStep (length system.rows) derivation.steps
+IsFrugal system (Point point) = Unit {0}

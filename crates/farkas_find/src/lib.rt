@@ -14,6 +14,7 @@ mod contradiction;
 mod counting;
 mod duplicates;
 mod fault;
+mod first_rows;
 mod found;
 mod left;
 mod made;

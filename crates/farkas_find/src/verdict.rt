@@ -3,7 +3,7 @@
 ghost use Rattle.std.specs.Prelude.{◌≡◌, ◌≤◌, All, IfOk};
 ghost use Rattle.az_lin.specs.Affine.{HasWidth};
 ghost use Rattle.farkas_find.specs.OneAnswer.{Verdict, Agrees};
-ghost use Rattle.farkas_find.specs.Verdict.{Decides, ExcludesOther, IsSmallSystem, IsNoOverflow};
+ghost use Rattle.farkas_find.specs.Verdict.{Decides, ExcludesOther, IsFrugal, IsSmallSystem, IsNoOverflow};
 
 use crate::FindFault;
 use crate::back_substitute::point;
@@ -50,6 +50,7 @@ pub fn decide(alloc: Global, system: &Conj) -> Result<Decision, FindFault>
     ensures answer { Decides system.now result }
     ensures only { (other : Verdict) → Decides system.now other → Agrees result other }
     ensures one { IfOk result (ExcludesOther system.now) }
+    ensures frugal { IfOk result (IsFrugal system.now) }
     ensures small { IsSmallSystem system.now → IsNoOverflow result }
 {
     judge(alloc, system)

@@ -1,13 +1,18 @@
-use Rattle.std.proofs.Common.{arith, refl}
+use Rattle.std.proofs.Common.{List, subst, OnOk}
+use Rattle.std.proofs.lemmas.List.{map-id}
+use Rattle.std.specs.Prelude.{All}
+use Rattle.az_lin.specs.Affine.{Affine}
+use Rattle.az_lin.specs.Combination.{HasWideEntries}
 use Rattle.farkas_find.specs.Stages.{given_rows}
-use Rattle.farkas_find.proofs.Numbering.{length-numbered_from}
-use Rattle.farkas_find.proofs.Given.{given_answers}
+use Rattle.farkas_find.specs.Inner.Nexts.{GivenAnswers}
 use Rattle.farkas_find.proofs.stored.stored_rows.Goals as goal
-
-pub returns-then-rows-gt-MOST_ROWS-clause-answer : goal.returns-then-rows-gt-MOST_ROWS-clause-answer
-returns-then-rows-gt-MOST_ROWS-clause-answer c = (refl, omega (arith, length-numbered_from 0 c.args.rows.now, c.if-rows-gt-MOST_ROWS.true))
 
 pub returns-clause-answer : goal.returns-clause-answer
 returns-clause-answer c =
-    given_answers (given_rows c.args.rows.now) c.numbered.result (omega (arith, length-numbered_from 0 c.args.rows.now, c.if-rows-gt-MOST_ROWS.false))
-    c.numbered.ensures.ok c.numbered.ensures.cause
+    let P : List Affine → Type 0 = λ rows. GivenAnswers (given_rows rows) c.numbered_rows.result in
+    subst P (map-id c.args.rows.now) c.numbered_rows.ensures.answer
+
+pub returns-clause-range : goal.returns-clause-range
+returns-clause-range c =
+    let P : List Affine → Type 0 = λ rows. OnOk c.numbered_rows.result (All HasWideEntries rows) in
+    subst P (map-id c.args.rows.now) c.numbered_rows.ensures.range

@@ -1,5 +1,6 @@
 use Rattle.farkas_find.proofs.Decided.{small_never_overflows, excludes_other}
 use Rattle.farkas_find.proofs.OneAnswer.{decide_once}
+use Rattle.farkas_find.proofs.Used.{decided_uses}
 use Rattle.farkas_find.proofs.verdict.decide.Goals as goal
 
 pub returns-clause-small : goal.returns-clause-small
@@ -10,3 +11,6 @@ returns-clause-one c = excludes_other c.args.system.now c.judge.result c.judge.e
 
 pub returns-clause-only : goal.returns-clause-only
 returns-clause-only c = λ other same. decide_once c.args.system.now c.judge.result other c.judge.ensures.answer same
+
+pub returns-clause-frugal : goal.returns-clause-frugal
+returns-clause-frugal c = decided_uses c.args.system.now c.judge.result c.judge.ensures.answer

@@ -1,9 +1,6 @@
-pub mod BoundSteps
+pub mod BoundKept
 pub mod CutLines
-pub mod Intervals
+pub mod Evaluating
 pub mod OneCertificate
 pub mod OneRun
-pub mod Programs
-pub mod Ramp
-pub mod RowText
 pub mod Stops

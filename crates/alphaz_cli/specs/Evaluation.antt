@@ -1,22 +1,20 @@
--- What a run does, test by test: the words are read, then the program, then its parameters are set and the inputs of its
--- tables looked for, and then it is evaluated.
-use Rattle.std.specs.Prelude.{◌≡◌, ℕ, List, [], Option, Ok, Err}
+-- What a run does, test by test: the words are read, then the program, then its parameters are set and the tables of its
+-- inputs read, and then it is evaluated.
+use Rattle.std.specs.Prelude.{◌≡◌, ℕ, List, Option, Ok, Err}
 use Rattle.std.specs.FinMap.{empty}
-use Rattle.az_ast.specs.OutputRows.{AreOutputRows}
 use Rattle.az_ast.specs.System.{System}
 use Rattle.az_desk.specs.Files.{Files}
 use Rattle.command_words.specs.Evaluations.{AsksFor}
 use Rattle.command_words.specs.declared.evaluation.Evaluation.{Evaluation}
+use Rattle.data_commands.specs.Outputs.{output_rows}
 use Rattle.session_state.specs.Codes.{status}
 use Rattle.session_state.specs.Endings.{Ending, Ends}
 use Rattle.session_state.specs.Settings.{unset}
-use Rattle.session_state.specs.Steps.{Step, ◌>>=◌}
-use Rattle.session_state.specs.declared.refusal.Refusal.TheVariants.{Usage, Text}
-use Rattle.session_state.specs.declared.refusal.TextKind.TheVariants.{Syntax}
+use Rattle.session_state.specs.Steps.{Step, ◌>>=◌, each_in}
+use Rattle.session_state.specs.declared.refusal.Refusal.TheVariants.{Usage}
 use Rattle.session_state.specs.declared.stop.Stop.TheVariants.{Refused, Fault, Memory}
 use Rattle.az_desk.specs.Desk.{Seen}
-use Rattle.alphaz_cli.specs.Bound.{set_all, name_inputs}
-use Rattle.alphaz_cli.specs.Evaluable.{IsEvaluable}
+use Rattle.alphaz_cli.specs.Bound.{set_bound, read_bound}
 use Rattle.alphaz_cli.specs.Outcomes.{outcome}
 use Rattle.alphaz_cli.specs.Programs.{read_alphabets}
 use Rattle.alphaz_cli.specs.declared.status.Status.{Status}
@@ -27,20 +25,15 @@ asked words (Err (Refused refusal)) = (refusal ≡ Usage) × ((evaluation : Eval
 asked words (Err (Fault call)) = ⊥
 asked words (Err Memory) = ⊥
 
--- The output rows of a program that is evaluated today. Any other is answered as a text that can't go on at its first
--- byte.
-abbrev pub output : List ℕ → System → Step (List ℕ)
-output file p (Ok rows) = IsEvaluable p × AreOutputRows p empty [] rows
-output file p (Err (Refused refusal)) = (refusal ≡ Text file Syntax 0) × (IsEvaluable p → ⊥)
-output file p (Err (Fault call)) = ⊥
-output file p (Err Memory) = ⊥
-
 -- of a program that was read
-abbrev pub evaluated : Evaluation → System → Step (List ℕ)
-evaluated e p = set_all p (unset p) e.bindings >>= (λ settings. name_inputs p e.bindings >>= (λ named. output e.program p))
+abbrev pub evaluated : Option Files → Evaluation → System → Step (List ℕ)
+evaluated files e p =
+    each_in (set_bound p) (unset p) e.bindings >>= (λ settings.
+    each_in (read_bound p files settings) empty e.bindings >>= (λ tables.
+    output_rows p settings tables))
 
 abbrev pub evaluation : Option Files → Evaluation → Step (List ℕ)
-evaluation files e = read_alphabets files e.program >>= evaluated e
+evaluation files e = read_alphabets files e.program >>= evaluated files e
 
 abbrev pub run : List (List ℕ) → Option Files → Step (List ℕ)
 run words files = asked words >>= evaluation files

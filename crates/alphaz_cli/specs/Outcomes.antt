@@ -6,7 +6,7 @@ use Rattle.session_state.specs.declared.refusal.Refusal.{Refusal}
 use Rattle.session_state.specs.declared.refusal.Refusal.TheVariants as refusal
 use Rattle.session_state.specs.declared.stop.Stop.TheVariants as stop
 use Rattle.alphaz_cli.specs.declared.status.Outcome.{Outcome}
-use Rattle.alphaz_cli.specs.declared.status.Outcome.TheVariants.{Done, Usage, ReadFault, WriteFault, Text, Shape, ProgramNo, Command, Overflow, Limited, Memory}
+use Rattle.alphaz_cli.specs.declared.status.Outcome.TheVariants.{Done, Usage, ReadFault, WriteFault, Text, Shape, ProgramNo, Command, Overflow, Limited, BadTable, Memory, Cycle}
 
 abbrev pub outcome_of_refusal : Refusal → Outcome
 outcome_of_refusal refusal.Usage = Usage
@@ -16,6 +16,8 @@ outcome_of_refusal (refusal.ProgramNo kind variable number point) = ProgramNo ki
 outcome_of_refusal (refusal.Command reason) = Command reason
 outcome_of_refusal (refusal.Overflow spot) = Overflow spot
 outcome_of_refusal (refusal.Limited limit) = Limited limit
+outcome_of_refusal (refusal.BadTable input row kind) = BadTable input row kind
+outcome_of_refusal (refusal.Cycle chain names) = Cycle chain
 
 abbrev pub outcome : Ending → Outcome
 outcome (Ok _) = Done

@@ -1,15 +1,19 @@
 //! The bindings of an evaluation.
 
-ghost use Rattle.std.specs.Prelude.{◌≡◌, ◌&&◌, position, length};
-ghost use Rattle.std.specs.Str.{bytes_eq};
-ghost use Rattle.alphaz_cli.specs.Bound.{set_bound, set_all, is_input, input, name_input, name_inputs};
-ghost use Rattle.session_state.specs.Settings.{unset};
-ghost use Rattle.session_state.specs.Steps.{TakesAlone, with_value};
+ghost use Rattle.std.specs.Prelude.{◌≡◌, IfOk, OnErr, length};
+ghost use Rattle.std.specs.FinMap.{empty};
+ghost use Rattle.alphaz_cli.specs.Bound.{set_bound, read_bound};
+ghost use Rattle.data_commands.specs.Tables.{AreRead};
+ghost use Rattle.session_state.specs.Endings.{IsLeft};
+ghost use Rattle.session_state.specs.Settings.{AreSettings, unset};
+ghost use Rattle.session_state.specs.Steps.{Takes, TakesAlone, each_in, with_value};
 
-use az_ast::{Program, Reason, Role, Variable};
+use az_ast::{Inputs, Program};
+use az_desk::Desk;
 use az_lin::List;
 use command_words::Binding;
-use session_state::{Refusal, Stop, name, set_parameter, unset};
+use data_commands::read_input;
+use session_state::{Stop, set_parameter, unset};
 use std::alloc::Global;
 
 fn set_bound(
@@ -38,7 +42,7 @@ fn set_each(
     bindings: &[Binding],
 ) -> Result<(), Stop>
     requires { length settings.old ≡ length program.now.params }
-    ensures { TakesAlone (set_all program.now settings.old bindings.now) (with_value settings.new result) }
+    ensures { TakesAlone (each_in (set_bound program.now) settings.old bindings.now) (with_value settings.new result) }
 {
     for binding in bindings {
         set_bound(alloc, program, settings, binding)?;
@@ -52,63 +56,56 @@ pub(crate) fn set_all(
     program: &Program,
     bindings: &[Binding],
 ) -> Result<List<Option<i128>>, Stop>
-    ensures { TakesAlone (set_all program.now (unset program.now) bindings.now) result }
+    ensures answer { TakesAlone (each_in (set_bound program.now) (unset program.now) bindings.now) result }
+    ensures set { IfOk result (AreSettings program.now) }
 {
     let mut settings = unset(alloc, program)?;
     set_each(alloc, program, &mut settings, bindings)?;
     Ok(List::from_vec(settings))
 }
 
-fn is_input(role: Role) -> bool
-    ensures { result ≡ is_input role }
-{
-    match role {
-        Role::Input => true,
-        Role::Output | Role::Local => false,
-    }
-}
-
-fn place_of(variables: &[Variable], name: &str) -> Option<usize>
-    ensures { result ≡ position (λ variable. bytes_eq variable.name name.now && is_input variable.role) variables.now }
-{
-    variables.iter().position(|variable| variable.name.as_str() == name && is_input(variable.role))
-}
-
-/// The number of the input of that name.
-fn input(alloc: Global, program: &Program, sought: &str) -> Result<usize, Stop>
-    ensures { TakesAlone (input program.now sought.now) result }
-{
-    match place_of(program.variables(), sought) {
-        Some(number) => Ok(number),
-        None => {
-            let unknown = Reason::Unknown(name(alloc, sought)?);
-            Err(Stop::Refused(Refusal::Command(unknown)))
-        }
-    }
-}
-
-fn name_input(alloc: Global, program: &Program, binding: &Binding) -> Result<(), Stop>
-    ensures { TakesAlone (name_input program.now binding.now) result }
+fn read_bound<D: Desk>(
+    alloc: Global,
+    desk: &mut D,
+    program: &Program,
+    settings: &[Option<i128>],
+    inputs: &mut Inputs,
+    binding: &Binding,
+) -> Result<(), Stop>
+    requires { AreSettings program.now settings.now }
+    ensures answer { Takes (read_bound program.now (D.seen desk.old).files settings.now inputs.old binding.now) (with_value inputs.new result) }
+    ensures left { IsLeft (D.seen desk.old) result (D.seen desk.new) }
 {
     match binding {
         Binding::Parameter { .. } => Ok(()),
-        Binding::Table { name, .. } => {
-            input(alloc, program, name.as_str())?;
-            Ok(())
-        }
+        Binding::Table { name, file } => read_input(
+            alloc,
+            desk,
+            program,
+            settings,
+            inputs,
+            name.as_str(),
+            file.as_str(),
+        ),
     }
 }
 
-/// Looks for the inputs whose tables are bound.
-pub(crate) fn name_inputs(
+/// The tables that are bound, each read in order.
+pub(crate) fn read_all<D: Desk>(
     alloc: Global,
+    desk: &mut D,
     program: &Program,
+    settings: &[Option<i128>],
     bindings: &[Binding],
-) -> Result<(), Stop>
-    ensures { TakesAlone (name_inputs program.now bindings.now) result }
+) -> Result<Inputs, Stop>
+    requires { AreSettings program.now settings.now }
+    ensures answer { Takes (each_in (read_bound program.now (D.seen desk.old).files settings.now) empty bindings.now) result }
+    ensures left { IsLeft (D.seen desk.old) result (D.seen desk.new) }
+    ensures read { IfOk result (AreRead program.now settings.now) }
 {
+    let mut inputs = Inputs::new(alloc);
     for binding in bindings {
-        name_input(alloc, program, binding)?;
+        read_bound(alloc, desk, program, settings, &mut inputs, binding)?;
     }
-    Ok(())
+    Ok(inputs)
 }

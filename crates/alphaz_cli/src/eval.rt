@@ -1,44 +1,37 @@
 //! `eval PROGRAM BINDING..`: the output rows of a program.
 
-ghost use Rattle.alphaz_cli.specs.Evaluation.{output, evaluated, evaluation};
+ghost use Rattle.alphaz_cli.specs.Evaluation.{evaluated, evaluation};
 ghost use Rattle.session_state.specs.Endings.{IsLeft};
-ghost use Rattle.session_state.specs.Steps.{Takes, TakesAlone};
+ghost use Rattle.session_state.specs.Steps.{Takes};
 
-use crate::bound::{name_inputs, set_all};
-use crate::interval::evaluable;
+use crate::bound::{read_all, set_all};
 use crate::program::read_alphabets;
-use crate::rows::output_rows;
-use az_ast::Program;
+use az_ast::Checked;
 use az_desk::Desk;
 use az_lin::List;
 use command_words::Evaluation;
-use session_state::{Refusal, Stop, TextKind, name};
+use data_commands::output_rows;
+use session_state::Stop;
 use std::alloc::Global;
 
-/// The output rows, where the program is evaluated today.
-fn output(alloc: Global, file: &str, program: &Program) -> Result<List<u8>, Stop>
-    ensures { TakesAlone (output file.now program.now) result }
+/// What follows when the program is read: its parameters, its tables, and then its rows.
+fn evaluated<D: Desk>(
+    alloc: Global,
+    desk: &mut D,
+    asked: &Evaluation,
+    checked: &Checked,
+) -> Result<List<u8>, Stop>
+    ensures answer { Takes (evaluated (D.seen desk.old).files asked.now checked.now) result }
+    ensures left { IsLeft (D.seen desk.old) result (D.seen desk.new) }
 {
-    match evaluable(program) {
-        Some(ramp) => Ok(List::from_vec(output_rows(alloc, &ramp)?.into_bytes())),
-        None => {
-            let file = name(alloc, file)?;
-            Err(Stop::Refused(Refusal::Text(file, TextKind::Syntax, 0)))
-        }
-    }
-}
-
-/// What follows when the program is read: its bindings, and then its rows.
-fn evaluated(alloc: Global, asked: &Evaluation, program: &Program) -> Result<List<u8>, Stop>
-    ensures { TakesAlone (evaluated asked.now program.now) result }
-{
+    let program = checked.program();
     let bindings = asked.bindings.as_slice();
-    set_all(alloc, program, bindings)?;
-    name_inputs(alloc, program, bindings)?;
-    output(alloc, asked.program.as_str(), program)
+    let settings = set_all(alloc, program, bindings)?;
+    let inputs = read_all(alloc, desk, program, settings.as_slice(), bindings)?;
+    output_rows(alloc, checked, settings.as_slice(), &inputs)
 }
 
-/// Reads the program, sets what is bound, and evaluates.
+/// Reads the program, sets and reads what is bound, and evaluates.
 pub(crate) fn eval<D: Desk>(
     alloc: Global,
     desk: &mut D,
@@ -48,5 +41,5 @@ pub(crate) fn eval<D: Desk>(
     ensures left { IsLeft (D.seen desk.old) result (D.seen desk.new) }
 {
     let checked = read_alphabets(alloc, desk, asked.program.as_str())?;
-    evaluated(alloc, asked, checked.program())
+    evaluated(alloc, desk, asked, &checked)
 }

@@ -4,10 +4,10 @@
 #![tactic(auto)]
 
 mod bound;
+#[cfg(test)]
+mod cases;
 mod eval;
-mod interval;
 mod program;
-mod rows;
 mod run;
 mod status;
 #[cfg(test)]

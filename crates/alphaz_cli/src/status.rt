@@ -5,9 +5,11 @@ ghost use Rattle.alphaz_cli.specs.Outcomes.{outcome, outcome_of_refusal};
 
 use az_ast::{Reason, ShapeKind};
 use az_desk::Call;
-use az_lin::{Limit, Name, RatPoint};
+use az_lin::{Limit, List, Name, RatPoint};
 use domain_check::CheckKind;
 use session_state::{Refusal, Spot, Stop, TextKind};
+use table_data::RowKind;
+use value_walk::PointName;
 
 /// What a run ended with: done, a fault of the desk, want of memory, or a refusal.
 #[derive(Debug, Drop)]
@@ -32,8 +34,12 @@ pub enum Outcome {
     Overflow(Spot),
     /// The count that was exceeded.
     Limited(Limit),
+    /// The input, the number of the row in its text, from 1 and 0 for a missing one, and what is wrong.
+    BadTable(Name, u64, RowKind),
     /// Memory ran out.
     Memory,
+    /// A closed chain: each point's equation reads the next point, and the last one's the first.
+    Cycle(List<PointName>),
 }
 
 /// The answer of a run, and the exit status.
@@ -56,6 +62,8 @@ fn outcome_of_refusal(refusal: Refusal) -> Outcome
         Refusal::Command(reason) => Outcome::Command(reason),
         Refusal::Overflow(spot) => Outcome::Overflow(spot),
         Refusal::Limited(limit) => Outcome::Limited(limit),
+        Refusal::BadTable(input, row, kind) => Outcome::BadTable(input, row, kind),
+        Refusal::Cycle { chain, .. } => Outcome::Cycle(chain),
     }
 }
 

@@ -1,5 +1,5 @@
 -- Coordinates as they are written one after the other.
-use Rattle.std.proofs.Common.{◌≡◌, ℕ, suc, ◌+◌, ◌<◌, List, ◌∷◌, ◌++◌, length, get_or, drop, ℤ, pos, append_assoc, sym, ap, ◌∙◌, add-one, drop-cons}
+use Rattle.std.proofs.Common.{◌≡◌, ℕ, ◌+◌, ◌<◌, List, ◌++◌, length, get_or, drop, ℤ, pos, append_assoc, sym, ap, ◌∙◌, add-one, drop-cons}
 use Rattle.session_state.specs.Coordinates.{coordinate, separator, coordinates_from}
 
 module _ (row den place : ℕ) (numbers : List ℤ) (number : ℤ) (within : place < length numbers) (here : number ≡ get_or numbers place (pos 0)) where

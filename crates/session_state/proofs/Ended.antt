@@ -1,11 +1,10 @@
 -- From what was said to how a run ended, and what follows from how it ended.
-use Rattle.std.proofs.Common.{◌≡◌, ℕ, List, inl, inr, refl, sym, subst, ap, ◌∙◌, arith}
-use Rattle.std.specs.Prelude.{Ok, Err, Option, ◌⊎◌}
-use Rattle.az_desk.specs.Desk.{Seen, Rose, SaysSome, said_more, failed}
-use Rattle.az_desk.specs.Files.{Files}
+use Rattle.std.proofs.Common.{◌≡◌, ℕ, List, inl, inr, refl, ap, arith}
+use Rattle.std.specs.Prelude.{Ok, Err, ◌⊎◌}
+use Rattle.az_desk.specs.Desk.{Seen, Rose}
 use Rattle.az_desk.specs.declared.call.Call.{Call}
 use Rattle.session_state.specs.Codes.{status}
-use Rattle.session_state.specs.Endings.{Ending, IsLeft, IsSaid, IsListing, EndsByFault, Ends}
+use Rattle.session_state.specs.Endings.{Ending, IsLeft, IsSaid, EndsByFault, Ends}
 use Rattle.session_state.specs.Lines.{line, program_front}
 use Rattle.session_state.specs.Steps.{Step, Takes}
 use Rattle.session_state.specs.declared.refusal.Refusal.{Refusal}

@@ -1,4 +1,6 @@
 pub mod CoordinateText
 pub mod Taking
+pub mod Each
+pub mod Kept
 pub mod Ended
 pub mod Once

@@ -1,11 +1,11 @@
 -- Steps that are passed or refused, and not both; and that give one value.
 use Rattle.std.proofs.Common.{◌≡◌, ℕ, ◌<◌, ◌≤◌, ◌^◌, length, inl, inr, refl, sym, subst, ap, ◌∙◌, arith}
-use Rattle.std.specs.Prelude.{Result, Ok, Err, Option, Some, None, List, ℤ, set}
+use Rattle.std.specs.Prelude.{Result, Ok, Err, Option, Some, None, List, [], ◌∷◌, ℤ, set}
 use Rattle.az_ast.specs.System.{System}
 use Rattle.az_desk.specs.Files.{Files, content_of}
 use Rattle.session_state.specs.Settings.{Settings, place_of, parameter, coordinate, set_parameter}
 use Rattle.session_state.specs.Texts.{text_of}
-use Rattle.session_state.specs.Steps.{Step, ◌>>=◌, answers, gives, some_or}
+use Rattle.session_state.specs.Steps.{Step, ◌>>=◌, answers, gives, some_or, unless, holds_or, each_in}
 use Rattle.session_state.specs.declared.refusal.Refusal.{Refusal}
 use Rattle.session_state.specs.declared.refusal.Refusal.TheVariants.{Command}
 use Rattle.az_ast.specs.declared.reason.Reason.TheVariants.{Unknown}
@@ -41,6 +41,27 @@ module _ {A : Type 0} (why : Refusal) where
   pub not_both_of_some : (o : Option A) → NotBoth (some_or why o)
   not_both_of_some (Some v) = not_both_answers (Ok v)
   not_both_of_some None = not_both_answers (Err (Refused why))
+
+pub not_both_unless : (cause : Option Refusal) → NotBoth (unless cause)
+not_both_unless None = not_both_answers (Ok tt)
+not_both_unless (Some why) = not_both_answers (Err (Refused why))
+
+-- what gives nothing gives one thing
+pub one_nothing : (step : Step (Unit {0})) → IsOne step
+one_nothing step x y h k = refl
+
+pub not_both_holds : (why : Refusal) (claim : Type 0) → NotBoth (holds_or why claim)
+not_both_holds why claim x refusal h k = k.1 h
+
+module _ {S B : Type 0} (one : S → B → Step S) (each_one : (state : S) (item : B) → IsOne (one state item)) where
+  pub one_each : (items : List B) (state : S) → IsOne (each_in one state items)
+  one_each [] state = one_answer (Ok state)
+  one_each (item ∷ items) state = one_then (one state item) (λ more. each_in one more items) (each_one state item) (λ more. one_each items more)
+
+  pub not_both_each : ((state : S) (item : B) → NotBoth (one state item)) → (items : List B) (state : S) → NotBoth (each_in one state items)
+  not_both_each apart [] state = not_both_answers (Ok state)
+  not_both_each apart (item ∷ items) state =
+      not_both_then (one state item) (λ more. each_in one more items) (each_one state item) (apart state item) (λ more. not_both_each apart items more)
 
 -- to set a parameter is one thing, or refused
 module _ (p : System) (settings : Settings) (name : List ℕ) (number : ℤ) where

@@ -2,7 +2,7 @@
 use Rattle.std.specs.Prelude.{ℕ, Result, Ok, Err}
 use Rattle.az_desk.specs.declared.call.Call.TheVariants.{Read, Write, Say}
 use Rattle.session_state.specs.declared.refusal.Refusal.{Refusal}
-use Rattle.session_state.specs.declared.refusal.Refusal.TheVariants.{Usage, Text, Shape, ProgramNo, Command, Overflow, Limited}
+use Rattle.session_state.specs.declared.refusal.Refusal.TheVariants.{Usage, Text, Shape, ProgramNo, Command, Overflow, Limited, BadTable, Cycle}
 use Rattle.session_state.specs.declared.stop.Stop.{Stop}
 use Rattle.session_state.specs.declared.stop.Stop.TheVariants.{Refused, Fault, Memory}
 
@@ -14,6 +14,8 @@ code (ProgramNo kind variable number point) = 7
 code (Command reason) = 8
 code (Overflow spot) = 10
 code (Limited limit) = 11
+code (BadTable input row kind) = 12
+code (Cycle chain names) = 15
 
 -- of a run, by how it ends
 abbrev pub status : Result (Unit {0}) Stop → ℕ

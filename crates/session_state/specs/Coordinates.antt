@@ -1,5 +1,5 @@
 -- Numbers over a common denominator as they are written: each a whole number or `p/q` in lowest terms.
-use Rattle.std.specs.Prelude.{ℕ, suc, ◌+◌, ◌*◌, ◌/◌, ◌%◌, ◌==◌, ◌&&◌, max, Bool, not, List, [], ◌∷◌, ◌++◌, codes, length, if◌then◌else◌, ℤ, pos, negsuc, unsigned_abs}
+use Rattle.std.specs.Prelude.{ℕ, ◌+◌, ◌/◌, ◌%◌, ◌==◌, max, List, [], ◌∷◌, ◌++◌, codes, length, if◌then◌else◌, ℤ, pos, negsuc, unsigned_abs}
 use Rattle.std.specs.Fmt.{decimal}
 use Rattle.az_lin.specs.CommonDivisor.{gcd_of}
 use Rattle.az_lin.specs.declared.step.RatPoint.{RatPoint}

@@ -1,5 +1,6 @@
 pub mod Codes
 pub mod Coordinates
+pub mod Chains
 pub mod Variants
 pub mod Reasons
 pub mod Lines

@@ -1,5 +1,5 @@
 -- How a reason is written: its word, and behind it what it carries.
-use Rattle.std.specs.Prelude.{ℕ, nat_le, List, ◌++◌, codes, length, ℤ, unsigned_abs, if◌then◌else◌}
+use Rattle.std.specs.Prelude.{ℕ, nat_le, List, ◌++◌, codes, length, unsigned_abs, if◌then◌else◌}
 use Rattle.std.specs.Fmt.{decimal}
 use Rattle.az_ast.specs.declared.reason.Reason.{Reason}
 use Rattle.az_ast.specs.declared.reason.Reason.TheVariants.{NoProgram, Disjoined, Unknown, Twice, Interface, Kinds, Size, Width, Factor, NoInverse, SelfInline, NotLocal, NotUsed, StillUsed, NotReduction, NotUniform, ZeroShift, NoReuse, NoSubtract, NoFactor, Split, NoSpread, Unmapped, NotCertified, Params, NoTable, OffDomain, Entry}

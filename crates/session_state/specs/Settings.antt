@@ -1,6 +1,7 @@
 -- The numbers of a program's parameters, as far as they were set.
-use Rattle.std.specs.Prelude.{ℕ, ◌^◌, nat_lt, List, map, set, position, if◌then◌else◌, ℤ, unsigned_abs, Option, Some, None, Ok, Err}
+use Rattle.std.specs.Prelude.{◌≡◌, ℕ, ◌^◌, nat_lt, List, length, map, set, position, if◌then◌else◌, ℤ, unsigned_abs, All, Option, Some, None, IfSome, Ok, Err}
 use Rattle.std.specs.Str.{bytes_eq}
+use Rattle.az_lin.specs.Affine.{IsCoordinate}
 use Rattle.az_lin.specs.declared.limit.Limit.TheVariants.{Coordinate}
 use Rattle.az_ast.specs.System.{System}
 use Rattle.az_ast.specs.declared.reason.Reason.TheVariants.{Unknown}
@@ -14,6 +15,11 @@ Settings = List (Option ℤ)
 
 abbrev pub unset : System → Settings
 unset p = map (λ name. None) p.params
+
+-- such numbers for the parameters of a program
+pub record AreSettings (p : System) (settings : Settings) : Type 0 where
+  pub each : length settings ≡ length p.params
+  pub coordinates : All (λ setting. IfSome setting IsCoordinate) settings
 
 abbrev pub place_of : System → List ℕ → Option ℕ
 place_of p name = position (λ param. bytes_eq param name) p.params

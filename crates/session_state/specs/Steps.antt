@@ -2,7 +2,7 @@
 --
 -- A step is what it may answer: a value, or why the command stops there. Steps follow one another in the order in which
 -- causes are looked for, so a command is refused for the first of its steps that is not passed, and for no other.
-use Rattle.std.specs.Prelude.{◌≡◌, ◌⊎◌, Option, Some, None, Result, Ok, Err}
+use Rattle.std.specs.Prelude.{◌≡◌, ◌⊎◌, List, [], ◌∷◌, Option, Some, None, Result, Ok, Err}
 use Rattle.az_desk.specs.declared.call.Call.{Call}
 use Rattle.session_state.specs.declared.refusal.Refusal.{Refusal}
 use Rattle.session_state.specs.declared.stop.Stop.{Stop}
@@ -28,6 +28,23 @@ gives x = answers (Ok x)
 abbrev pub some_or : {A : Type 0} → Refusal → Option A → Step A
 some_or refusal (Some x) = gives x
 some_or refusal None = answers (Err (Refused refusal))
+
+-- nothing, or else a refusal
+abbrev pub unless : Option Refusal → Step (Unit {0})
+unless None = gives tt
+unless (Some refusal) = answers (Err (Refused refusal))
+
+-- what holds is passed, or else there is a refusal
+abbrev pub holds_or : Refusal → Type 0 → Step (Unit {0})
+holds_or refusal claim (Ok _) = claim
+holds_or refusal claim (Err (Refused why)) = (why ≡ refusal) × (claim → ⊥)
+holds_or refusal claim (Err (Fault call)) = ⊥
+holds_or refusal claim (Err Memory) = ⊥
+
+-- a step for each item in order, each from what the one before it gave
+abbrev pub each_in : {S B : Type 0} → (S → B → Step S) → S → List B → Step S
+each_in one state [] = gives state
+each_in one state (item ∷ items) = one state item >>= (λ more. each_in one more items)
 
 -- A function takes a step, where only such calls on the desk may fail. Want of memory may stand for any answer.
 abbrev pub TakesBy : {A : Type 0} → (Call → Type 0) → Step A → Result A Stop → Type 0

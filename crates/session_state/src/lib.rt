@@ -4,6 +4,7 @@
 //! desk when it ended. `specs/Codes.antt` and `specs/Lines.antt` are the tables of codes and lines.
 #![tactic(auto)]
 
+mod chains;
 mod coordinates;
 mod lines;
 mod reasons;

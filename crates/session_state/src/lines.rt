@@ -2,13 +2,15 @@
 
 ghost use Rattle.std.specs.Prelude.{◌≡◌, IfOk, string_bytes};
 ghost use Rattle.session_state.specs.Codes.{code};
-ghost use Rattle.session_state.specs.Lines.{spot_text, refusal_text, line};
+ghost use Rattle.session_state.specs.Lines.{spot_text, row_text, refusal_text, line};
 
-use crate::coordinates::rational_point;
+use crate::chains::chain_text;
+use crate::coordinates::{point_text, rational_point};
 use crate::reasons::reason_text;
 use crate::variants::{check_word, limit_word, shape_word, text_word};
 use crate::{Refusal, Spot};
 use std::alloc::{AllocError, Global};
+use table_data::RowKind;
 
 const USAGE: &str =
     "usage: eval PROGRAM [NAME=N or NAME@FILE]... ; run SCRIPT [--workers K] ; check SCRIPT CERTIFICATE ; make N [--workers K]";
@@ -26,6 +28,8 @@ impl Refusal {
             Refusal::Command(_) => 8,
             Refusal::Overflow(_) => 10,
             Refusal::Limited(_) => 11,
+            Refusal::BadTable(_, _, _) => 12,
+            Refusal::Cycle { .. } => 15,
         }
     }
 }
@@ -48,6 +52,22 @@ fn spot_text(alloc: Global, spot: &Spot) -> Result<String, AllocError>
         Spot::Piece(number) => format!(in alloc; "piece {number}"),
         Spot::Schedule => String::from_str(alloc, "schedule"),
         Spot::Project => String::from_str(alloc, "project"),
+    }
+}
+
+/// What is wrong with a row.
+fn row_text(alloc: Global, kind: &RowKind) -> Result<String, AllocError>
+    ensures { IfOk result (λ text. string_bytes text ≡ row_text kind.now) }
+{
+    match kind {
+        RowKind::Fields => String::from_str(alloc, "Fields"),
+        RowKind::Number => String::from_str(alloc, "Number"),
+        RowKind::Outside => String::from_str(alloc, "Outside"),
+        RowKind::Twice => String::from_str(alloc, "Twice"),
+        RowKind::Missing(point) => {
+            let point = point_text(alloc, 1, point.as_slice())?;
+            format!(in alloc; "Missing {point}")
+        }
     }
 }
 
@@ -79,6 +99,15 @@ fn refusal_text(alloc: Global, refusal: &Refusal) -> Result<String, AllocError>
         Refusal::Limited(limit) => {
             let word = limit_word(*limit);
             format!(in alloc; "Limit {word}")
+        }
+        Refusal::BadTable(input, row, kind) => {
+            let input = input.as_str();
+            let kind = row_text(alloc, kind)?;
+            format!(in alloc; "Data {input} row {row} {kind}")
+        }
+        Refusal::Cycle { chain, names } => {
+            let chain = chain_text(alloc, names.as_slice(), chain.as_slice())?;
+            format!(in alloc; "Cycle{chain}")
         }
     }
 }

@@ -1,8 +1,10 @@
 //! Why a run or a command is refused.
 
 use az_ast::{Reason, ShapeKind};
-use az_lin::{Limit, Name, RatPoint};
+use az_lin::{Limit, List, Name, RatPoint};
 use domain_check::CheckKind;
+use table_data::RowKind;
+use value_walk::PointName;
 
 /// What is wrong with a text.
 #[derive(Debug, Clone, Copy, PartialEq, Eq)]
@@ -50,4 +52,11 @@ pub enum Refusal {
     Overflow(Spot),
     /// The count that was exceeded.
     Limited(Limit),
+    /// The input, the number of the row in its text, from 1 and 0 for a missing one, and what is wrong.
+    BadTable(Name, u64, RowKind),
+    /// A closed chain of points, and the names of the program's variables by their numbers.
+    Cycle {
+        chain: List<PointName>,
+        names: List<Name>,
+    },
 }

@@ -1,37 +1,33 @@
-use Rattle.std.proofs.Common.{◌≡◌, List, rules, subst}
-use Rattle.std.specs.Prelude.{Ok, Err}
-use Rattle.session_state.proofs.Taking.{stops_first, goes_on}
-use Rattle.session_state.specs.Settings.{unset}
-use Rattle.session_state.specs.Steps.{◌>>=◌, TakesAlone}
-use Rattle.command_words.specs.declared.binding.Binding.{Binding}
-use Rattle.alphaz_cli.specs.Bound.{set_all, name_inputs}
-use Rattle.alphaz_cli.specs.Evaluation.{output}
+use Rattle.std.proofs.Common.{◌≡◌, ◌∙◌, rules, sym, subst}
+use Rattle.std.specs.Prelude.{Err}
+use Rattle.az_ast.specs.System.{System}
+use Rattle.session_state.specs.Settings.{Settings}
+use Rattle.data_commands.specs.Tables.{AreRead}
+use Rattle.alphaz_cli.proofs.Evaluating.{unset_stops, unread_stops, rows_taken}
 use Rattle.alphaz_cli.proofs.eval.evaluated.Goals as goal
 
-pub returns-in_err-set_all : goal.returns-in_err-set_all
-returns-in_err-set_all c =
-    let p = c.args.program.now in
-    let e = c.args.asked.now in
-    let handed : c.from_residual.result ≡ Err c.in_err-set_all.field-0.0 = search rules in
-    rw handed (stops_first (λ call. ⊥) (set_all p (unset p) e.bindings) (λ settings. name_inputs p e.bindings >>= (λ named. output e.program p))
-    c.in_err-set_all.field-0.0
-    (subst (λ (bs : List Binding). TakesAlone (set_all p (unset p) bs) (Err c.in_err-set_all.field-0.0)) c.as_slice-bindings.ensures c.in_err-set_all.ensures))
+pub returns-in_err-settings-clause-answer : goal.returns-in_err-settings-clause-answer
+returns-in_err-settings-clause-answer g c =
+    let stop = c.in_err-settings.field-0.0 in
+    let handed : c.from_residual.result ≡ Err stop = search rules in
+    rw handed (unset_stops (g.D.Desk.seen c.args.desk.now).files c.args.asked.now c.args.checked.now c.program-program.result.now c.program-program.ensures.value
+    c.as_slice-bindings.result.now c.as_slice-bindings.ensures stop c.in_err-settings.ensures.answer)
 
-pub returns-in_err-name_inputs : goal.returns-in_err-name_inputs
-returns-in_err-name_inputs c =
-    let p = c.args.program.now in
-    let e = c.args.asked.now in
-    let handed : c.from_residual-in_err-name_inputs.result ≡ Err c.in_err-name_inputs.field-0.0 = search rules in
-    rw handed (goes_on (λ call. ⊥) (set_all p (unset p) e.bindings) (λ settings. name_inputs p e.bindings >>= (λ named. output e.program p))
-    c.in_ok-set_all.field-0 (Err c.in_err-name_inputs.field-0.0) (rw c.as_slice-bindings.ensures at c.in_ok-set_all.ensures)
-    (stops_first (λ call. ⊥) (name_inputs p e.bindings) (λ named. output e.program p) c.in_err-name_inputs.field-0.0
-    (subst (λ (bs : List Binding). TakesAlone (name_inputs p bs) (Err c.in_err-name_inputs.field-0.0)) c.as_slice-bindings.ensures c.in_err-name_inputs.ensures)))
+pub returns-in_err-inputs-clause-answer : goal.returns-in_err-inputs-clause-answer
+returns-in_err-inputs-clause-answer g c =
+    let stop = c.in_err-inputs.field-0.0 in
+    let handed : c.from_residual-in_err-inputs.result ≡ Err stop = search rules in
+    rw handed (unread_stops (g.D.Desk.seen c.args.desk.now).files c.args.asked.now c.args.checked.now c.program-program.result.now c.program-program.ensures.value
+    c.as_slice-bindings.result.now c.as_slice-bindings.ensures c.in_ok-settings.settings c.as_slice.result.now c.as_slice.ensures c.in_ok-settings.ensures.answer stop
+    c.in_err-inputs.ensures.answer)
 
-pub returns : goal.returns
-returns c =
-    let p = c.args.program.now in
-    let e = c.args.asked.now in
-    goes_on (λ call. ⊥) (set_all p (unset p) e.bindings) (λ settings. name_inputs p e.bindings >>= (λ named. output e.program p))
-    c.in_ok-set_all.field-0 c.output.result (rw c.as_slice-bindings.ensures at c.in_ok-set_all.ensures)
-    (goes_on (λ call. ⊥) (name_inputs p e.bindings) (λ named. output e.program p) tt c.output.result
-    (rw c.as_slice-bindings.ensures at c.in_ok-name_inputs.ensures) (rw c.as_str.ensures at c.output.ensures))
+pub output_rows-requires-clause-read : goal.output_rows-requires-clause-read
+output_rows-requires-clause-read g c =
+    subst (λ (s : Settings). AreRead c.args.checked.now s c.in_ok-inputs.inputs) (c.as_slice.ensures ∙ sym c.as_slice-2.ensures)
+    (subst (λ (q : System). AreRead q c.as_slice.result.now c.in_ok-inputs.inputs) c.program-program.ensures.value c.in_ok-inputs.ensures.read)
+
+pub returns-clause-answer : goal.returns-clause-answer
+returns-clause-answer g c =
+    rows_taken (g.D.Desk.seen c.args.desk.now).files c.args.asked.now c.args.checked.now c.program-program.result.now c.program-program.ensures.value
+    c.as_slice-bindings.result.now c.as_slice-bindings.ensures c.in_ok-settings.settings c.as_slice.result.now c.as_slice.ensures c.in_ok-settings.ensures.answer
+    c.in_ok-inputs.inputs c.in_ok-inputs.ensures.answer c.as_slice-2.result.now c.as_slice-2.ensures c.output_rows.result c.output_rows.ensures

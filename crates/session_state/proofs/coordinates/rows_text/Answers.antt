@@ -1,8 +1,7 @@
-use Rattle.std.proofs.Common.{◌≡◌, rules, ap, ◌∙◌, slice_index_or, pos, FitsSigned, to_z, of_z}
+use Rattle.std.proofs.Common.{rules, ap, ◌∙◌, slice_index_or, pos, FitsSigned}
 use Rattle.std.specs.Int.{w128}
 use Rattle.std.proofs.lemmas.Int.{to_z-of_z}
 use Rattle.session_state.proofs.CoordinateText.{one_more}
-use Rattle.session_state.specs.Coordinates.{separator}
 use Rattle.std.specs.Prelude.{string_bytes, ◌++◌}
 use Rattle.session_state.proofs.coordinates.rows_text.Goals as goal
 

@@ -1,6 +1,9 @@
 pub mod Sums
 pub mod Once
+pub mod FinitePoints
+pub mod Exists
 pub mod Counting
 pub mod BodySteps
 pub mod PointSteps
+pub mod Numbers
 pub mod Answering

@@ -27,8 +27,9 @@ use Rattle.value_walk.proofs.Bodies.{few-columns, body-ready}
 use Rattle.value_walk.proofs.Steps.{body-found}
 use Rattle.equation_meaning.specs.Counts.{MembersCount, TermCounts, VariableCounts, IsNumberOfPoints}
 use Rattle.equation_meaning.specs.declared.body_count.CountFault.{CountFault}
-use Rattle.equation_meaning.specs.Inner.Counting.{CanCount, BodyCounts, EvaluatedAt, EvaluatedOf, EvaluatedIn, BodyAnswers, VariableAnswers, ProgramAnswers, IsCounted, CountAnswers}
+use Rattle.equation_meaning.specs.Inner.Counting.{CanCount, IsCountable, BodyCounts, EvaluatedAt, EvaluatedOf, EvaluatedIn, BodyAnswers, VariableAnswers, ProgramAnswers, IsCounted, CountAnswers}
 use Rattle.equation_meaning.proofs.Once.{counts-once}
+use Rattle.equation_meaning.proofs.Exists.{numbered, term-number}
 use Rattle.equation_meaning.proofs.Counting.{carried, Parts, MetIn}
 
 -- where nothing is asked of a read, the number of parameters counts for nothing
@@ -134,29 +135,37 @@ module _ (p : System) (params : List ℤ) (x : ℕ) (v : Variable) (declared : s
     pub counted-own : (left : ℕ) (result : Result ℕ CountFault) → BodyAnswers body params points left result → VariableAnswers p params x left result
     counted-own left result h = carried (BodyCounts body params points) (VariableCounts p params x) (EvaluatedAt body params points) (EvaluatedOf p params x) to back up down left result h
 
-    module _ (program : IsProgram p) (certified : IsCertified p) (inside : HoldsSome p.pdom params) (small : AreCoordinates params points) where
-      pub can-count : (k : List ℤ) → Contains points k → CanCount body (params ++ k)
-      can-count k c =
-          let member = All-Contains (IsMember v.domain params (v.domain.width - length p.params)) points k members.only c in
-          let few = few-columns p program certified params long x v declared k member equation found in
-          let here : All IsCoordinate k = subst (λ q. All IsCoordinate q) c.2 (small.points c.0 k c.1) in
-          record {
-            ready = any-parameters (length p.params) 0 body (params ++ k)
-                (body-ready p program certified params long x v declared k member equation found inside (λ y ps l. Unit {0}) (λ e d o. IsFinite d (length o) e) (λ y l. Unit {0}) (λ e d o. Unit {0})
-                (λ y f z s a w r. tt) (λ e d o finite met. finite) (λ y l r. tt) (λ e d o r. tt));
-            narrow = omega (arith, few);
-            range = All-append IsCoordinate params k small.parameters here;
-          }
+    module _ (program : IsProgram p) (certified : IsCertified p) (inside : HoldsSome p.pdom params) where
+      member : (k : List ℤ) → Contains points k → IsMember v.domain params (v.domain.width - length p.params) k
+      member k c = All-Contains (IsMember v.domain params (v.domain.width - length p.params)) points k members.only c
 
-there : {A : Type 0} (xs : List A) (i : ℕ) → i < length xs → (x : A) × (slice_get xs i ≡ Some x)
+      countable : (k : List ℤ) → Contains points k → IsCountable body (params ++ k)
+      countable k c =
+          any-parameters (length p.params) 0 body (params ++ k)
+          (body-ready p program certified params long x v declared k (member k c) equation found inside (λ y ps l. Unit {0}) (λ e d o. IsFinite d (length o) e) (λ y l. Unit {0}) (λ e d o. Unit {0})
+          (λ y f z s a w r. tt) (λ e d o finite met. finite) (λ y l r. tt) (λ e d o r. tt))
+
+      pub own-number : (n : ℕ) × VariableCounts p params x n
+      own-number =
+          let each = numbered (λ k c. TermCounts body (params ++ k) c) points (λ k c. term-number body (params ++ k) (countable k c)) in
+          (length points + sum each.0, to (length points + sum each.0) (each.0, each.1, refl))
+
+      module _ (small : AreCoordinates params points) where
+        pub can-count : (k : List ℤ) → Contains points k → CanCount body (params ++ k)
+        can-count k c =
+            let few = few-columns p program certified params long x v declared k (member k c) equation found in
+            let here : All IsCoordinate k = subst (λ q. All IsCoordinate q) c.2 (small.points c.0 k c.1) in
+            record { ready = countable k c; narrow = omega (arith, few); range = All-append IsCoordinate params k small.parameters here }
+
+pub there : {A : Type 0} (xs : List A) (i : ℕ) → i < length xs → (x : A) × (slice_get xs i ≡ Some x)
 there [] i h = absurd (omega arith)
 there (x ∷ xs) zero h = (x, refl)
 there (x ∷ xs) (suc i) h = there xs i (omega (arith, h))
 
-tested : (p : System) (x : ℕ) (v : Variable) (b : Bool) → slice_get p.variables x ≡ Some v → of_variable p.variables (λ (w : Variable). is_input w.role) x ≡ b → is_input v.role ≡ b
+pub tested : (p : System) (x : ℕ) (v : Variable) (b : Bool) → slice_get p.variables x ≡ Some v → of_variable p.variables (λ (w : Variable). is_input w.role) x ≡ b → is_input v.role ≡ b
 tested p x v b e h = subst (λ o. option_map_or (λ (w : Variable). is_input w.role) o false ≡ b) e h
 
-input-role : (role : Role) → is_input role ≡ true → role ≡ Input
+pub input-role : (role : Role) → is_input role ≡ true → role ≡ Input
 input-role Input e = refl
 input-role Output e = absurd (cc)
 input-role Local e = absurd (cc)

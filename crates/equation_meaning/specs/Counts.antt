@@ -43,3 +43,6 @@ VariableCounts p params x n =
 abbrev pub IsNumberOfPoints : System → List ℤ → ℕ → Type 0
 IsNumberOfPoints p params n =
     (counts : List ℕ) × AllZip (λ x c. VariableCounts p params x c) (range_with_len 0 (length p.variables)) counts × (n ≡ sum counts)
+
+abbrev pub HasNumberOfPoints : System → List ℤ → Type 0
+HasNumberOfPoints p params = (n : ℕ) × IsNumberOfPoints p params n

@@ -24,7 +24,7 @@ pub record IsWithin (p : System) (params : List ℤ) : Type 0 where
   pub boxes : (domain : Union) (outer : List ℤ) → IsAsked p params domain outer → IsUnrefused domain outer
 
 abbrev pub HasManyPoints : System → List ℤ → Type 0
-HasManyPoints p params = (n : ℕ) → IsNumberOfPoints p params n → 2 ^ 22 < n
+HasManyPoints p params = (n : ℕ) × IsNumberOfPoints p params n × (2 ^ 22 < n)
 
 abbrev pub EvaluationAnswers : System → Tables → List ℤ → Result Tables EvalRefusal → Type 0
 EvaluationAnswers p tables params (Ok values) = AreMeanings p tables params values × IsWithin p params

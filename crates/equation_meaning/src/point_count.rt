@@ -5,6 +5,7 @@ ghost use Rattle.az_lin.specs.Affine.{HoldsSome};
 ghost use Rattle.az_ast.specs.Certified.{IsCertified};
 ghost use Rattle.az_ast.specs.Shapes.{IsProgram};
 ghost use Rattle.value_walk.specs.Points.{ArePoints, IsCoveredBy};
+ghost use Rattle.equation_meaning.specs.Counts.{HasNumberOfPoints};
 ghost use Rattle.equation_meaning.specs.Inner.Counting.{VariableAnswers, ProgramAnswers};
 
 use crate::body_count::{CountFault, body_count};
@@ -52,7 +53,8 @@ pub(crate) fn point_count(
     requires points { ArePoints program.now params.now points.now }
     requires each { length points.now ≡ length program.now.variables }
     requires few { length points.now < 2 ^ 32 }
-    ensures { ProgramAnswers program.now params.now (2 ^ 22) result }
+    ensures answers { ProgramAnswers program.now params.now (2 ^ 22) result }
+    ensures number { HasNumberOfPoints program.now params.now }
 {
     let variables = program.variables();
     let mut count = 0;

@@ -172,6 +172,10 @@ module _ (scene : Scene) (states : States) (slot : Slot) (work : List Step) (v :
     ]
   ]
 
+-- where nothing waits, any point may be looked at as begun
+pub alone-good : (scene : Scene) (states : States) (slot : Slot) → IsSlot scene.points.now slot → IsGood scene states [] → IsGood scene states (Begun slot ∷ [])
+alone-good scene states slot h good = record { stated = good.stated; linked = (h, tt, tt); open_ones = λ s l e. absurd (good.open_ones s l e) }
+
 -- ---- what is due stays so where steps are kept
 pub due-kept : (states : States) (work more : List Step) (s : Slot) → ((step : Step) → IsIn step work → IsIn step more) → IsDue states work s → IsDue states more s
 due-kept states work more s f due = elim due [

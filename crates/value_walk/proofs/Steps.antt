@@ -6,6 +6,7 @@ use Rattle.az_lin.specs.Affine.{AffineMap, Union, HoldsSome, image_of, IsCoordin
 use Rattle.std.proofs.lemmas.List.Elements.{All-append}
 use Rattle.std.proofs.lemmas.List.{take_more}
 use Rattle.az_ast.proofs.Members.{All-Contains}
+use Rattle.loop_scan.proofs.Lists.{AllZip-push}
 use Rattle.value_walk.specs.Boxes.{IsBox}
 use Rattle.az_ast.specs.declared.op.Op.{Op}
 use Rattle.az_ast.specs.declared.expr.Expr.{Expr}
@@ -134,12 +135,6 @@ module _ (scene : Scene) (slot : Slot) (z : List ℤ) where
         })
 
   -- one more member
-  AllZip-more : (P : List ℤ → ℤ → Type 0) (ks : List (List ℤ)) (vs : List ℤ) (k : List ℤ) (v : ℤ) → AllZip P ks vs → P k v → AllZip P (ks ++ k ∷ []) (vs ++ v ∷ [])
-  AllZip-more P [] [] k v a h = (h, tt)
-  AllZip-more P [] (w ∷ vs) k v a h = absurd a
-  AllZip-more P (l ∷ ks) [] k v a h = absurd a
-  AllZip-more P (l ∷ ks) (w ∷ vs) k v a h = (a.0, AllZip-more P ks vs k v a.1 h)
-
   fold-more : (f : ℤ → ℤ → ℤ) (unit : ℤ) (vs : List ℤ) (v : ℤ) → fold f unit (vs ++ v ∷ []) ≡ f (fold f unit vs) v
   fold-more f unit [] v = refl
   fold-more f unit (w ∷ vs) v = fold-more f (f unit w) vs v
@@ -163,7 +158,7 @@ module _ (scene : Scene) (slot : Slot) (z : List ℤ) where
             values = t.values ++ b ∷ [];
             bodies =
                 subst (λ ps. AllZip (λ q w. Gives scene (term body) (z ++ q) w) ps (t.values ++ b ∷ [])) (sym next)
-                (AllZip-more (λ q w. Gives scene (term body) (z ++ q) w) (take i points) t.values k b t.bodies (subst (λ q. Gives scene (term body) q b) same v));
+                (AllZip-push (λ q w. Gives scene (term body) (z ++ q) w) (take i points) t.values k b t.bodies (subst (λ q. Gives scene (term body) q b) same v));
             result = ap (λ q. applied op q b) t.result ∙ sym (fold-more (applied op) (identity op) t.values b);
           }
 

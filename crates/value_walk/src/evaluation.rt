@@ -53,7 +53,8 @@ impl Walk {
     }
 }
 
-/// The state of each point when its value is known.
+/// The state of each point when its value is known. The first pass goes over the variables from the
+/// last on, since outputs stand before the locals that they read.
 fn settled(alloc: Global, scene: &Scene) -> Result<Vec<Items<State>>, EvalRefusal>
     requires ready { AreBodiesReady scene.now }
     requires points { ArePoints scene.now.program.now scene.now.params.now scene.now.points.now }
@@ -66,6 +67,11 @@ fn settled(alloc: Global, scene: &Scene) -> Result<Vec<Items<State>>, EvalRefusa
         states: unknown_states(alloc, scene.points)?,
         work: Stack::new(alloc),
     };
+    let mut left = scene.points.len();
+    while left > 0 {
+        left -= 1;
+        walk.sweep(alloc, scene, left as u32)?;
+    }
     'variables: for x in 0..scene.points.len() {
         walk.settle_all(alloc, scene, x as u32)?;
     }

@@ -1,6 +1,6 @@
 //! A stack, which contracts see as the list of its items, the top first.
 
-ghost use Rattle.std.specs.Prelude.{◌≡◌, ◌<◌, ◌^◌, [], ◌∷◌, reverse, length, OnOk, MatchOption};
+ghost use Rattle.std.specs.Prelude.{◌≡◌, ◌<◌, ◌^◌, [], ◌∷◌, reverse, length, OnOk, IfOk, MatchOption};
 
 use az_lin::List;
 use std::alloc::{AllocError, Global};
@@ -29,6 +29,15 @@ impl<T: Drop> Stack<T> {
         Stack {
             items: Vec::new(alloc),
         }
+    }
+
+    /// An empty stack with room for so many items.
+    pub(crate) fn with_capacity(alloc: Global, count: usize) -> Result<Stack<T>, AllocError>
+        ensures { IfOk result (λ stack. stack ≡ []) }
+    {
+        Ok(Stack {
+            items: Vec::with_capacity(alloc, count)?,
+        })
     }
 
     pub(crate) fn push(&mut self, item: T) -> Result<(), AllocError>

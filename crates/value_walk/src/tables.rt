@@ -7,6 +7,7 @@ ghost use Rattle.value_walk.specs.Inner.Slots.{AreAligned, AreSettled, IsSettled
 ghost use Rattle.value_walk.specs.Points.{ArePoints, IsCoveredBy};
 ghost use Rattle.value_walk.specs.Meanings.{AreMeanings, HasTable};
 
+use crate::shrinking::Shrinking;
 use crate::slot::State;
 use crate::stack::Stack;
 use az_ast::{Inputs, Program, Role, ShapeFault, Table, Values};
@@ -29,8 +30,9 @@ fn rows_of(
     ensures points { IfOk result (λ rows. map (λ row. row.0) rows ≡ points) }
     ensures values { IfOk result (λ rows. All (λ row. Means program.now inputs.now params.now x row.0 row.1) rows) }
 {
-    let mut points = Items::from_vec(points.into_vec());
-    let mut rows = Stack::new(alloc);
+    let mut points = Shrinking::of(points);
+    let count = points.len();
+    let mut rows = Stack::with_capacity(alloc, count)?;
     while let Some(point) = points.pop() {
         match states[points.len()] {
             State::Known(value) => rows.push((point, value))?,

@@ -47,7 +47,7 @@ fn ask(
 }
 
 impl Walk {
-    fn set(&mut self, slot: Slot, state: State)
+    pub(crate) fn set(&mut self, slot: Slot, state: State)
         requires { slot.place < length (states_of self.old.states.items slot.variable) }
         ensures states { self.new.states.items ≡ with_state self.old.states.items slot state }
         ensures work { self.new.work ≡ self.old.work }

@@ -12,6 +12,7 @@ use Rattle.loop_scan.specs.declared.fault.ScanFault.TheVariants as scan
 use Rattle.table_data.proofs.Answered.{only_table}
 use Rattle.table_data.specs.Answers.{IsOrMemory}
 use Rattle.table_data.specs.declared.fault.TableFault.TheVariants as fault
+use Rattle.equation_meaning.proofs.Once.{one-number}
 use Rattle.equation_meaning.specs.Evaluation.{EvaluationAnswers, IsWithin, HasManyPoints}
 use Rattle.value_walk.specs.Meanings.{IsRefused}
 use Rattle.value_walk.specs.declared.refusal.EvalRefusal.{EvalRefusal}
@@ -90,7 +91,10 @@ module _ (p : System) (values : List ℤ) (within : IsWithin p values) where
   no_refused f other (domain, outer, asked, refuses) = other (within.boxes domain outer asked f refuses)
 
   within_or_many : HasManyPoints p values → ⊥
-  within_or_many many = let more : 2 ^ 22 < within.number = many within.number within.points in let few : within.number ≤ 2 ^ 22 = within.few in omega (arith, more, few)
+  within_or_many (n, points, more) =
+      let same : n ≡ within.number = one-number p values n within.number points within.points in
+      let few : within.number ≤ 2 ^ 22 = within.few in
+      omega (arith, more, few, same)
 
 module _ (p : System) (tables : Tables) (values : List ℤ) where
   pub not_both_evaluated : NotBoth (evaluated p tables values)

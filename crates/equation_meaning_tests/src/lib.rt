@@ -10,6 +10,10 @@ mod inputs;
 mod limits;
 #[cfg(test)]
 mod programs;
+#[cfg(test)]
+mod recurrences;
+#[cfg(test)]
+mod reductions;
 mod sample;
 
 pub use sample::evaluated;

@@ -15,10 +15,17 @@ const BRANCH: &str =
 const WIDE: &str =
     "affine Wide {N | N>=0} output X {|}; let X[] = case {| N=0} : 1; {| N>=1} : reduce(+, [i,j], {| 0<=i<=2048 && j=i} : 1); esac; .";
 
-const CASES: [Case; 6] = [
+const CASES: [Case; 7] = [
     // 2,049 points in a box of 4,198,401.
     (
         "affine Big {|} output X {i,j | 0<=i<=2048 && j=i}; let X[i,j] = 1; .",
+        &[],
+        &[],
+        "Box",
+    ),
+    // One point more than a box may have.
+    (
+        "affine Line {|} output X {i | 0<=i<=4194304}; let X[i] = [i]; .",
         &[],
         &[],
         "Box",

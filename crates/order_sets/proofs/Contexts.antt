@@ -8,7 +8,7 @@ use Rattle.az_lin.specs.Columns.{without, widened_domain}
 use Rattle.az_lin.proofs.HeldPoints.{widened_domain_holds}
 use Rattle.az_ast.specs.Certified.{IsInContext}
 use Rattle.domain_check.specs.Context.{over}
-use Rattle.formula_refute.specs.Claims.{claims, IsTrueAt}
+use Rattle.formula_refute.specs.Claims.{IsTrueAt}
 use Rattle.formula_refute.specs.Domains.{domain_claim}
 use Rattle.formula_refute.proofs.DomainTruth.{disjuncts_true}
 use Rattle.order_sets.proofs.Joined.{Each}

@@ -1,6 +1,6 @@
 -- Where formulas of joined lists are true.
 use Rattle.std.proofs.Common.{◌⊎◌, inl, inr, ℤ, List, [], ◌∷◌, ◌++◌}
-use Rattle.formula_refute.specs.Claims.{Claim, claims, IsTrueAt, EachTrueAt, SomeTrueAt}
+use Rattle.formula_refute.specs.Claims.{Claim, claims, EachTrueAt, SomeTrueAt}
 
 module _ (z : List ℤ) where
   abbrev pub Each : List Claim → Type 0

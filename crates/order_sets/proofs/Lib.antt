@@ -6,3 +6,10 @@ pub mod Stamps
 pub mod Visits
 pub mod ReadFacts
 pub mod Meaning
+pub mod Making
+pub mod Places
+pub mod Widths
+pub mod Listing
+pub mod Timed
+pub mod Formulas
+pub mod ReadLists

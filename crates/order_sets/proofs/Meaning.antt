@@ -1,13 +1,10 @@
 -- The formulas of the dependences mean what they are to.
-use Rattle.std.proofs.Common.{◌≡◌, ◌↔◌, ℕ, ◌≤◌, ℤ, List, [], ◌∷◌, ◌++◌, length, take, map, refl, sym, ap, subst, ◌∙◌, arith, All}
-use Rattle.std.specs.Prelude.{slice_get}
-use Rattle.std.specs.FinMap.{get}
-use Rattle.std.specs.List.{AllByRecursion}
+use Rattle.std.proofs.Common.{◌≡◌, ◌↔◌, ℕ, ℤ, List, [], ◌∷◌, length, take, sym, ap, subst, ◌∙◌, arith, All}
 use Rattle.std.specs.Option.{option_map_or}
 use Rattle.std.proofs.lemmas.List.{length-map}
 use Rattle.std.proofs.lemmas.List.Elements.{All-nil, All-cons, All-head, All-tail}
 use Rattle.std.proofs.Math.Seq.{take-length}
-use Rattle.az_lin.specs.Affine.{Affine, AffineMap, image_of}
+use Rattle.az_lin.specs.Affine.{AffineMap}
 use Rattle.az_lin.specs.Substitution.{composed}
 use Rattle.az_ast.specs.Certified.{IsInContext}
 use Rattle.az_ast.specs.Shapes.{IsProgram}
@@ -15,23 +12,24 @@ use Rattle.az_ast.specs.System.{System}
 use Rattle.az_ast.specs.declared.program.Equation.{Equation}
 use Rattle.domain_check.specs.Context.{context}
 use Rattle.expr_places.specs.Reads.{ReadPlace, reads_of}
-use Rattle.formula_refute.specs.Claims.{Claim, claims, IsTrueAt}
+use Rattle.formula_refute.specs.Claims.{Claim, IsTrueAt}
 use Rattle.target_map.specs.Before.{Before}
 use Rattle.target_map.specs.Dependence.{point_read, point_of, ReadsTooEarly}
 use Rattle.target_map.specs.Kinds.{tile_sizes}
 use Rattle.target_map.specs.Settings.{TargetMapping, IsMapping, IsComplete, is_written}
 use Rattle.target_map.specs.Stamps.{Stamp}
-use Rattle.target_map.specs.Times.{time_of, stamp_at, domain_of, IsBefore}
+use Rattle.target_map.specs.Times.{time_of, stamp_at, IsBefore}
 use Rattle.order_sets.specs.Laws.{OrderIsMeant}
 use Rattle.order_sets.specs.NotBefore.{not_before, stamp_values}
 use Rattle.order_sets.specs.Orders.{order_claim}
 use Rattle.order_sets.specs.Alike.{AreAlike}
-use Rattle.order_sets.specs.Visits.{read_visit, own_visit, time_map, time_rows, number_row}
+use Rattle.order_sets.specs.Visits.{read_visit, own_visit, time_map, time_rows}
 use Rattle.order_sets.specs.declared.visit.Visit.{Visit}
 use Rattle.order_sets.proofs.Contexts.{context_to, context_from}
-use Rattle.order_sets.proofs.Joined.{Each, each_join, each_first, each_last}
+use Rattle.order_sets.proofs.Joined.{each_join, each_first, each_last}
 use Rattle.order_sets.proofs.NotBefore.{not_before_true}
-use Rattle.order_sets.proofs.ReadFacts.{IsReadOf, all_reads, equations_written}
+use Rattle.order_sets.specs.Reading.{IsReadOf}
+use Rattle.order_sets.proofs.ReadFacts.{all_reads, equations_written}
 use Rattle.order_sets.proofs.Stamps.{cut_alike, time_is}
 use Rattle.order_sets.proofs.Visits.{read_point, read_wide, own_point, own_wide}
 

@@ -1,16 +1,15 @@
 -- The formula is true at a point exactly where the one instance isn't before the other.
-use Rattle.std.proofs.Common.{◌≡◌, ◌⊎◌, inl, inr, ◌↔◌, ℕ, ◌+◌, arith, ℤ, List, [], ◌∷◌, ◌++◌, length, map, refl, sym, ap, ap₂, subst, ◌∙◌, length-append}
-use Rattle.std.proofs.lemmas.List.{map-append}
-use Rattle.az_lin.specs.Affine.{Affine, value_at}
+use Rattle.std.proofs.Common.{◌≡◌, ◌⊎◌, inl, inr, ◌↔◌, ℕ, ℤ, List, [], ◌∷◌, ◌++◌, refl, sym}
+use Rattle.az_lin.specs.Affine.{Affine}
 use Rattle.az_ast.specs.Points.{Precedes}
 use Rattle.az_ast.proofs.TableLemmas.{Precedes-differs, Precedes-chain}
 use Rattle.formula_refute.specs.Claims.{Claim, all_of, any_of, claims, IsTrueAt}
 use Rattle.target_map.specs.Before.{Before, in_outer_step, in_unit_tile, in_same_tile, NoneExceeds, SomeUnitLess}
 use Rattle.target_map.specs.Stamps.{Stamp}
 use Rattle.target_map.proofs.Points.{order_of}
-use Rattle.order_sets.specs.NotBefore.{each_pair, equal, less, exceeds, is_within, apart, unit_at_least, beside, not_ahead, in_one_step, not_before, values, stamp_values}
+use Rattle.order_sets.specs.NotBefore.{each_pair, equal, less, exceeds, is_within, apart, unit_at_least, beside, not_ahead, in_one_step, not_before, stamp_values}
 use Rattle.order_sets.specs.Alike.{AreAlike}
-use Rattle.order_sets.proofs.Joined.{Each, Some, each_join, each_first, each_last, some_first, some_last, some_one}
+use Rattle.order_sets.proofs.Joined.{Some, each_join, each_first, each_last, some_first, some_last, some_one}
 use Rattle.order_sets.proofs.Pairs.{equal_to, equal_from, less_to, less_from, exceeds_or, exceeds_to, within_from, unit_or, unit_to, apart_or, apart_to}
 
 same_not_before : (xs ys : List ℤ) → xs ≡ ys → Precedes xs ys → ⊥

@@ -1,18 +1,17 @@
 -- What the rows of pairs say of the values at a point: each of them decides, or is refuted.
-use Rattle.std.proofs.Common.{◌≡◌, ◌⊎◌, inl, inr, ℕ, suc, ◌+◌, arith, List, [], ◌∷◌, ◌++◌, length, map, Bool, true, false, cond, refl, sym, ap, ap₂, subst, ◌∙◌}
-use Rattle.std.specs.Prelude.{ℤ, pos, ◌-ℤ◌, ◌≤ℤ◌, ◌<ℤ◌, ◌==◌, if◌then◌else◌}
+use Rattle.std.proofs.Common.{◌≡◌, ◌⊎◌, inl, inr, ℕ, arith, List, [], ◌∷◌, ◌++◌, length, Bool, true, false, refl, ap, ap₂}
+use Rattle.std.specs.Prelude.{ℤ, pos, ◌≤ℤ◌, ◌<ℤ◌, ◌==◌, if◌then◌else◌}
 use Rattle.std.specs.declared.cmp.Ordering.TheVariants.{Less, Equal}
 use Rattle.std.proofs.lemmas.Bool.{eqb-true}
 use Rattle.std.proofs.lemmas.Int.{ints}
-use Rattle.az_lin.specs.Affine.{Affine, value_at, IsAtLeastZero}
-use Rattle.az_lin.specs.Difference.{apart_by}
+use Rattle.az_lin.specs.Affine.{Affine, value_at}
 use Rattle.az_lin.proofs.Difference.{value_at-apart_by}
 use Rattle.az_ast.specs.Points.{Precedes}
-use Rattle.formula_refute.specs.Claims.{Claim, claims, IsTrueAt, EachTrueAt, SomeTrueAt, all_of}
+use Rattle.formula_refute.specs.Claims.{Claim, IsTrueAt}
 use Rattle.target_map.specs.Before.{NoneExceeds, SomeUnitLess}
 use Rattle.target_map.proofs.Points.{compared, at_most_or, precedes_first, precedes_next, precedes_cases}
 use Rattle.order_sets.specs.NotBefore.{at_least, greater, both_ways, each_pair, equal, less_after, less, exceeds, is_within, apart, unit_at_least, values}
-use Rattle.order_sets.proofs.Joined.{Each, Some, each_join, each_first, each_last, some_first, some_last, some_one}
+use Rattle.order_sets.proofs.Joined.{Each, Some, each_join, each_first, each_last}
 
 module _ (z : List ℤ) where
   abbrev val : Affine → ℤ

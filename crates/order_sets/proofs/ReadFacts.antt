@@ -1,11 +1,11 @@
 -- What each read of a program has.
-use Rattle.std.proofs.Common.{◌≡◌, ℕ, zero, suc, ◌+◌, ◌≤◌, List, [], ◌∷◌, ◌++◌, length, Bool, true, false, not, Option, Some, None, refl, sym, ap, subst, ◌∙◌, arith, All, cond, map}
+use Rattle.std.proofs.Common.{◌≡◌, ℕ, zero, suc, ◌≤◌, List, [], ◌∷◌, ◌++◌, length, Bool, true, false, not, Option, Some, None, refl, sym, ap, subst, ◌∙◌, arith, All, cond}
 use Rattle.std.specs.Prelude.{◌==◌, slice_get, MatchOption, is_none, if◌then◌else◌}
 use Rattle.std.specs.Option.{option_map_or}
 use Rattle.std.specs.List.{AllByRecursion, cons_option, filter_map, flat_map}
 use Rattle.std.proofs.lemmas.Bool.{eq-eqb}
 use Rattle.std.proofs.lemmas.List.Elements.{All-nil, All-cons, All-head, All-tail, All-append, recursion_from_All}
-use Rattle.az_lin.specs.Affine.{AffineMap, Union}
+use Rattle.az_lin.specs.Affine.{Affine, AffineMap, Union, HasWidth}
 use Rattle.az_lin.proofs.Lists.{All-left, All-right}
 use Rattle.az_ast.specs.Meaning.{equation_of}
 use Rattle.az_ast.specs.Placed.{IsAtWidth, AreAtWidth, IsEquationPlaced}
@@ -19,20 +19,16 @@ use Rattle.az_ast.proofs.ProgramLaws.{equation_is}
 use Rattle.expr_places.specs.Places.{Part, case_over, reduction_over, access_to, Place, places, places_below, places_of, body_scope, under_branch, under_reduction}
 use Rattle.expr_places.specs.Reads.{ReadPlace, read_in, read_at, reads_of}
 use Rattle.expr_places.specs.declared.scope.Scope.{Scope}
-use Rattle.domain_check.specs.Inner.Ready.{IsReadAt, IsReadyPart, IsReady}
+use Rattle.formula_refute.specs.Claims.{Claim, claims, EachRow, EachRowBelow, IsOver}
+use Rattle.domain_check.specs.Checks.{Checks, checks_at, outside_of, reading_within}
+use Rattle.domain_check.specs.Context.{context, in_force}
+use Rattle.domain_check.specs.Inner.Ready.{IsReadAt, IsReadyChecks, IsReady}
+use Rattle.domain_check.specs.declared.fault.CheckKind.TheVariants.{Outside}
 use Rattle.domain_check.proofs.ProgramReady.{program_ready}
 use Rattle.domain_check.proofs.Readiness.{item_at}
 use Rattle.target_map.specs.Settings.{is_written}
 use Rattle.target_map.specs.Times.{domain_of}
-
--- a read of the equation of `x`
-pub record IsReadOf (p : System) (x : ℕ) (read : ReadPlace) : Type 0 where
-  pub variable : Variable
-  pub declared : slice_get p.variables read.variable ≡ Some variable
-  pub at : IsReadAt p read.scope read.map variable
-  pub written : is_written p read.variable
-  pub inside : AllByRecursion (λ (domain : Union). domain.width ≤ read.scope.width) read.scope.domains
-  pub reader : (domain_of p x).width ≤ read.scope.width
+use Rattle.order_sets.specs.Reading.{IsReadOf, HasReads}
 
 -- a place has no fewer columns than the body
 module _ (count own : ℕ) where
@@ -64,6 +60,24 @@ some-of : {A : Type 0} (o : Option A) (P : A → Type 0) → MatchOption o ⊥ P
 some-of None P h = absurd h
 some-of (Some x) P h = (x, refl, h)
 
+-- what all rows have, those of the first members have
+below_first : (P : Affine → Type 0) (cs ds : List Claim) → EachRowBelow P (claims (cs ++ ds)) → AllByRecursion (EachRow P) cs
+below_first P [] ds rows = tt
+below_first P (c ∷ cs) ds rows = (rows.0, below_first P cs ds rows.1)
+
+-- the context of an access
+context_over : (p : System) (scope : Scope) (x : ℕ) (f : AffineMap) (variable : Variable) → slice_get p.variables x ≡ Some variable
+    → All IsReadyChecks (checks_at p (record { part = access_to x f; scope = scope })) → AllByRecursion (IsOver scope.width) (context scope)
+context_over p scope x f variable is ready =
+    let outside : Claim = outside_of (reading_within p f variable) in
+    let all : Claim = in_force scope (outside ∷ []) in
+    let checks : Checks = record { kind = Outside; width = scope.width; claims = all ∷ [] } in
+    let made : Variable → List Checks = λ v. record { kind = Outside; width = scope.width; claims = in_force scope (outside_of (reading_within p f v) ∷ []) ∷ [] } ∷ [] in
+    let one : checks_at p (record { part = access_to x f; scope = scope }) ≡ checks ∷ [] = ap (λ o. option_map_or made o []) is in
+    let P : List Checks → Type 0 = λ list. All IsReadyChecks list in
+    let here : IsReadyChecks checks = All-head IsReadyChecks checks [] (subst P one ready) in
+    below_first (HasWidth scope.width) (context scope) (outside ∷ []) (All-head (IsOver scope.width) all [] here.1)
+
 module _ (p : System) (x : ℕ) where
   abbrev own : ℕ
   own = (domain_of p x).width
@@ -86,6 +100,8 @@ module _ (p : System) (x : ℕ) where
             at = there.2;
             written = written;
             inside = recursion_from_All (λ (domain : Union). domain.width ≤ scope.width) scope.domains ready.room.inside;
+            narrow = ready.room.narrow;
+            context = context_over p scope y f there.0 there.1 ready.checks;
             reader = wide;
           } in
           subst (IsReadOf p x) same result
@@ -102,6 +118,14 @@ module _ (p : System) (x : ℕ) where
           All-cons (IsReadOf p x) read (filter_map (read_at p.variables) ps)
           (read_is place.scope place.part read is (All-head (IsReady p) place ps ready) (All-head (λ (place : Place). own ≤ place.scope.width) place ps wide)) rest
 
+filtered_fewer : {A B : Type 0} (f : A → Option B) (xs : List A) → length (filter_map f xs) ≤ length xs
+filtered_fewer f [] = omega arith
+filtered_fewer {A} {B} f (x ∷ xs) = by (f x) (filtered_fewer f xs)
+  where
+    by : (o : Option B) → length (filter_map f xs) ≤ length xs → length (cons_option o (filter_map f xs)) ≤ length (x ∷ xs)
+    by None rest = omega (arith, rest)
+    by (Some y) rest = omega (arith, rest)
+
 -- the equations of a program
 abbrev domain_in : Option Variable → Union
 domain_in o = option_map_or (λ variable. variable.domain) o (record { width = 0; disjuncts = [] })
@@ -113,22 +137,22 @@ module _ (p : System) (program : IsProgram p) where
   wide_equation equation None is placed = absurd placed
   wide_equation equation (Some variable) is placed = wide_places (length p.variables) variable.domain.width (term equation.body) (body_scope p variable) (omega arith) placed
 
-  abbrev HasReads : Equation → Type 0
-  HasReads equation = All (IsReadOf p equation.variable) (reads_of p equation)
+  abbrev EachRead : Equation → Type 0
+  EachRead equation = All (IsReadOf p equation.variable) (reads_of p equation)
 
-  has_reads : (equation : Equation) → IsEquationPlaced p.variables equation → All (IsReady p) (places_of p equation) → HasReads equation
+  has_reads : (equation : Equation) → IsEquationPlaced p.variables equation → All (IsReady p) (places_of p equation) → EachRead equation
   has_reads equation placed ready =
       reads_are p equation.variable (places_of p equation) ready (wide_equation equation (slice_get p.variables equation.variable) refl placed)
 
-  have_reads : (equations : List Equation) → All (IsEquationPlaced p.variables) equations → All (IsReady p) (flat_map (places_of p) equations) → All HasReads equations
-  have_reads [] placed ready = All-nil HasReads
+  have_reads : (equations : List Equation) → All (IsEquationPlaced p.variables) equations → All (IsReady p) (flat_map (places_of p) equations) → All EachRead equations
+  have_reads [] placed ready = All-nil EachRead
   have_reads (equation ∷ equations) placed ready =
       let here = places_of p equation in
       let rest = flat_map (places_of p) equations in
-      All-cons HasReads equation equations (has_reads equation (All-head (IsEquationPlaced p.variables) equation equations placed) (All-left (IsReady p) here rest ready))
+      All-cons EachRead equation equations (has_reads equation (All-head (IsEquationPlaced p.variables) equation equations placed) (All-left (IsReady p) here rest ready))
       (have_reads equations (All-tail (IsEquationPlaced p.variables) equation equations placed) (All-right (IsReady p) here rest ready))
 
-  pub all_reads : All HasReads p.equations
+  pub all_reads : All EachRead p.equations
   all_reads = have_reads p.equations program.placed.bodies (program_ready p program).places
 
   -- the variable of an equation is an output or local
@@ -164,3 +188,20 @@ module _ (p : System) (program : IsProgram p) where
   pub equations_written : All (λ (e : Equation). is_written p e.variable) p.equations
   equations_written =
       all_from p.equations (λ j e is. is_declared e (item_at (IsEquationPlaced p.variables) p.equations j e is (recursion_from_All (IsEquationPlaced p.variables) p.equations program.placed.bodies)) j is)
+
+  -- all of it for each equation
+  fewer : (equation : Equation) → length (places_of p equation) ≤ 512 → length (reads_of p equation) ≤ 512
+  fewer equation few = omega (arith, few, filtered_fewer (read_at p.variables) (places_of p equation))
+
+  gathered : (equations : List Equation) → All (λ (e : Equation). is_written p e.variable) equations → All EachRead equations → All (λ (e : Equation). length (places_of p e) ≤ 512) equations
+      → All (λ (e : Equation). HasReads p e.variable (reads_of p e)) equations
+  gathered [] written each few = All-nil (λ (e : Equation). HasReads p e.variable (reads_of p e))
+  gathered (equation ∷ equations) written each few =
+      let W : Equation → Type 0 = λ e. is_written p e.variable in
+      let F : Equation → Type 0 = λ e. length (places_of p e) ≤ 512 in
+      All-cons (λ (e : Equation). HasReads p e.variable (reads_of p e)) equation equations
+      (record { written = All-head W equation equations written; each = All-head EachRead equation equations each; few = fewer equation (All-head F equation equations few) })
+      (gathered equations (All-tail W equation equations written) (All-tail EachRead equation equations each) (All-tail F equation equations few))
+
+  pub ready_reads : All (λ (e : Equation). HasReads p e.variable (reads_of p e)) p.equations
+  ready_reads = gathered p.equations equations_written all_reads (program_ready p program).short

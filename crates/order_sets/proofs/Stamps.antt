@@ -1,9 +1,9 @@
 -- What the rows of a stamp give at a point: the stamp of the instance there.
-use Rattle.std.proofs.Common.{◌≡◌, ℕ, ◌+◌, ◌≤◌, ℤ, pos, ◌+ℤ◌, List, [], ◌∷◌, ◌++◌, length, map, replicate, Bool, true, false, refl, sym, ap, ap₂, subst, ◌∙◌, arith, All, length-append}
+use Rattle.std.proofs.Common.{◌≡◌, ℕ, ℤ, pos, List, [], ◌∷◌, ◌++◌, length, map, replicate, Bool, true, false, refl, ap, ap₂, ◌∙◌, arith, All, length-append}
 use Rattle.std.specs.Prelude.{if◌then◌else◌}
 use Rattle.std.proofs.lemmas.Int.{ints}
 use Rattle.std.proofs.lemmas.List.{map-append}
-use Rattle.az_lin.specs.Affine.{Affine, AffineMap, HasWidth, dot, value_at, image_of}
+use Rattle.az_lin.specs.Affine.{Affine, HasWidth, dot, value_at, image_of}
 use Rattle.az_lin.proofs.Columns.{dot-padded}
 use Rattle.az_lin.proofs.Substitution.{image_of-composed}
 use Rattle.target_map.specs.Kinds.{is_outer, is_band, is_processor, is_inner}

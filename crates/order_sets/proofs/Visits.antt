@@ -1,8 +1,8 @@
 -- The points of the instances that the formulas speak of.
-use Rattle.std.proofs.Common.{◌≡◌, ℕ, ◌≤◌, ◌+◌, ℤ, List, [], ◌∷◌, ◌++◌, length, take, drop, map, refl, sym, ap, subst, ◌∙◌, arith, All, append-nil, length-append}
+use Rattle.std.proofs.Common.{◌≡◌, ℕ, ◌≤◌, ◌+◌, ℤ, List, ◌++◌, length, take, ap, ◌∙◌, arith, All, append-nil}
 use Rattle.std.proofs.lemmas.List.Elements.{All-nil, All-append}
-use Rattle.az_lin.specs.Affine.{Affine, AffineMap, HasWidth, image_of}
-use Rattle.az_lin.specs.Columns.{reading, extended, unit_rows, widened}
+use Rattle.az_lin.specs.Affine.{AffineMap, HasWidth, image_of}
+use Rattle.az_lin.specs.Columns.{reading, extended, unit_rows}
 use Rattle.az_lin.proofs.Columns.{image_of-reading, image_of-extended}
 use Rattle.az_ast.specs.System.{System}
 use Rattle.expr_places.specs.Reads.{ReadPlace}

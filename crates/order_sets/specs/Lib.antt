@@ -3,3 +3,9 @@ pub mod Alike
 pub mod Visits
 pub mod Orders
 pub mod Laws
+pub mod Rows
+pub mod Made
+pub mod Pairs
+pub mod Timed
+pub mod Reading
+pub mod Stated

@@ -3,7 +3,6 @@
 use Rattle.std.specs.Prelude.{ℕ, suc, List, [], ◌∷◌}
 use Rattle.std.specs.List.{flat_map}
 use Rattle.az_ast.specs.System.{System}
-use Rattle.az_ast.specs.declared.program.Equation.{Equation}
 use Rattle.domain_check.specs.Context.{in_force}
 use Rattle.expr_places.specs.Reads.{ReadPlace, reads_of}
 use Rattle.formula_refute.specs.Claims.{Claim}

@@ -1,6 +1,6 @@
 -- The instances that a formula speaks of: a variable with a map from the formula's columns to its point, and the
 -- rows that give its coordinates in time there.
-use Rattle.std.specs.Prelude.{ℕ, List, [], length, replicate, ℤ, pos}
+use Rattle.std.specs.Prelude.{ℕ, [], length, replicate, pos}
 use Rattle.az_lin.specs.Affine.{Affine, AffineMap}
 use Rattle.az_lin.specs.Columns.{reading, extended}
 use Rattle.az_lin.specs.Substitution.{composed_map}

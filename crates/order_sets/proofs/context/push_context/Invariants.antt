@@ -1,0 +1,10 @@
+use Rattle.std.proofs.Common.{List, ◌++◌, take, map}
+use Rattle.domain_check.specs.Context.{over}
+use Rattle.formula_refute.specs.Claims.{Claim}
+use Rattle.formula_refute.specs.Domains.{domain_claim}
+use Rattle.order_sets.specs.Made.{AreMade}
+use Rattle.order_sets.proofs.context.push_context.Given as goal
+
+abbrev pub invariant-domains : goal.invariant-domains
+invariant-domains l =
+    (cs : List Claim) → AreMade cs l.initial.members → AreMade (cs ++ map (λ domain. domain_claim (over l.width domain.now)) (take l.domain-index l.domain-items)) l.members

@@ -1,0 +1,76 @@
+//! Formulas of domains: of those in force at a place, and of others.
+
+ghost use Rattle.std.specs.Prelude.{◌≡◌, ◌≤◌, ◌∷◌, ◌++◌, [], List, All, OnOk, IfOk};
+ghost use Rattle.az_lin.specs.Affine.{Union};
+ghost use Rattle.domain_check.specs.Context.{over, context};
+ghost use Rattle.expr_places.specs.declared.scope.Scope.{Scope};
+ghost use Rattle.formula_refute.specs.Claims.{Claim, claim, IsInRange};
+ghost use Rattle.formula_refute.specs.Domains.{domain_claim};
+ghost use Rattle.order_sets.specs.Made.{AreMade};
+
+use crate::Members;
+use az_lin::{Domain, LinFault};
+use expr_places::Scope;
+use formula_refute::{Formula, RefuteFault, domain_formula};
+use row_columns::widened_domain;
+use std::alloc::{AllocError, Global};
+
+/// The formula of a domain, whose rows are in range.
+fn formula_of(alloc: Global, domain: &Domain) -> Result<Formula, AllocError>
+    ensures { IfOk result (λ formula. (claim formula ≡ domain_claim domain.now) × IsInRange (domain_claim domain.now)) }
+{
+    let _ = domain.disjuncts();
+    match domain_formula(alloc, domain) {
+        Ok(formula) => Ok(formula),
+        Err(RefuteFault::Memory) => Err(AllocError),
+        Err(_) => unreachable!(),
+    }
+}
+
+/// The point is in the domain.
+pub fn push_domain(members: &mut Members, alloc: Global, domain: &Domain) -> Result<(), AllocError>
+    ensures { (cs : List Claim) → OnOk result (AreMade cs members.old → AreMade (cs ++ domain_claim domain.now ∷ []) members.new) }
+{
+    let formula = formula_of(alloc, domain)?;
+    members.push(Some(formula))?;
+    Ok(())
+}
+
+/// The first columns of the point are in the domain.
+fn push_over(
+    members: &mut Members,
+    alloc: Global,
+    width: usize,
+    domain: &Domain,
+) -> Result<(), AllocError>
+    requires inside { domain.now.width ≤ width }
+    requires narrow { width ≤ 4096 }
+    ensures { (cs : List Claim) → OnOk result (AreMade cs members.old → AreMade (cs ++ domain_claim (over width domain.now) ∷ []) members.new) }
+{
+    let own = domain.width();
+    match widened_domain(alloc, domain, own, width - own) {
+        Ok(wide) => {
+            push_domain(members, alloc, &wide)?;
+            Ok(())
+        }
+        Err(LinFault::Memory) => Err(AllocError),
+        Err(_) => unreachable!(),
+    }
+}
+
+/// All that is in force at the place is, over so many columns.
+pub fn push_context(
+    members: &mut Members,
+    alloc: Global,
+    scope: &Scope,
+    width: usize,
+) -> Result<(), AllocError>
+    requires inside { All (λ domain. domain.width ≤ width) scope.now.domains }
+    requires narrow { width ≤ 4096 }
+    ensures { (cs : List Claim) → OnOk result (AreMade cs members.old → AreMade (cs ++ context (record scope.now { width = width })) members.new) }
+{
+    'domains: for domain in scope.domains.as_slice() {
+        push_over(members, alloc, width, domain)?;
+    }
+    Ok(())
+}

@@ -37,7 +37,8 @@ use Rattle.order_sets.specs.declared.visit.Visit.{Visit}
 use Rattle.order_sets.proofs.Contexts.{widened_true, context_to, context_from}
 use Rattle.order_sets.proofs.Joined.{Each, each_join, each_first, each_last}
 use Rattle.order_sets.proofs.Meaning.{not_before_is}
-use Rattle.order_sets.proofs.ReadFacts.{IsReadOf, all_reads, equations_written}
+use Rattle.order_sets.specs.Reading.{IsReadOf}
+use Rattle.order_sets.proofs.ReadFacts.{all_reads, equations_written}
 use Rattle.order_sets.proofs.Stamps.{time_is}
 use Rattle.order_sets.proofs.Visits.{read_point, read_wide, own_point, own_wide, writer_at, writer_wide}
 use Rattle.life_sets.specs.Cells.{shared, cell_map, other}

@@ -2,3 +2,10 @@ pub mod Cells
 pub mod Points
 pub mod Meaning
 pub mod Certified
+pub mod CellPlaces
+pub mod Pushes
+pub mod Own
+pub mod Instances
+pub mod LifeFormulas
+pub mod LifeListing
+pub mod LifeWidths

@@ -41,9 +41,10 @@ use Rattle.order_sets.specs.Reading.{IsReadOf}
 use Rattle.order_sets.proofs.ReadFacts.{all_reads, equations_written}
 use Rattle.order_sets.proofs.Stamps.{time_is}
 use Rattle.order_sets.proofs.Visits.{read_point, read_wide, own_point, own_wide, writer_at, writer_wide}
+use Rattle.life_sets.specs.Beside.{writer_domain}
 use Rattle.life_sets.specs.Cells.{shared, cell_map, other}
 use Rattle.life_sets.specs.Laws.{IsLifeMeant, IsKeepMeant, LivesAreMeant, LifeIsMeant}
-use Rattle.life_sets.specs.Lifetimes.{with_writer, output_scope, writer_domain, stores_over, before_reader, life_claim, keep_claim}
+use Rattle.life_sets.specs.Lifetimes.{with_writer, output_scope, stores_over, before_reader, life_claim, keep_claim}
 use Rattle.life_sets.proofs.Cells.{cell_to, cell_from, other_true}
 use Rattle.life_sets.proofs.Points.{take_front, short_image}
 
@@ -89,7 +90,7 @@ writer_written p m complete x y shares = by (get m.storages x) refl shares
     by (Some first) is shares = inner first (get m.storages y) refl shares
 
 -- an output is an output or local
-output_written : (p : System) (x : ℕ) → of_variable p.variables (λ variable. is_output variable.role) x ≡ true → is_written p x
+pub output_written : (p : System) (x : ℕ) → of_variable p.variables (λ variable. is_output variable.role) x ≡ true → is_written p x
 output_written p x output = by (slice_get p.variables x) output
   where
     role_written : (role : Role) → is_output role ≡ true → not (is_input role) ≡ true
@@ -159,9 +160,9 @@ module _ (p : System) (m : TargetMapping) (program : IsProgram p) (kept : IsMapp
           long = (let all = reading_rows n behind in omega (arith, all, rows, few));
         }
 
-    domain_true : IsTrueAt z (writer_domain p m width y) ↔ HoldsSome (domain_of p y) point
+    domain_true : IsTrueAt z (writer_domain p width y) ↔ HoldsSome (domain_of p y) point
     domain_true =
-        let P : List ℤ → Type 0 = λ w. IsTrueAt z (writer_domain p m width y) ↔ HoldsSome (domain_of p y) w in
+        let P : List ℤ → Type 0 = λ w. IsTrueAt z (writer_domain p width y) ↔ HoldsSome (domain_of p y) w in
         let behind : n + (width - n) ≡ width = omega arith in
         let same : without n (width - n) z ≡ point = ap (λ k. take n z ++ drop k z) behind in
         subst P same (widened_true z n (width - n) (domain_of p y))

@@ -3,19 +3,15 @@
 -- space, true where the writer stores over its value.
 use Rattle.std.specs.Prelude.{ℕ, suc, ◌+◌, ◌-◌, List, [], ◌∷◌, ◌++◌, length, map}
 use Rattle.std.specs.List.{flat_map}
-use Rattle.az_lin.specs.Columns.{widened_domain}
 use Rattle.az_ast.specs.System.{System}
 use Rattle.domain_check.specs.Context.{in_force}
 use Rattle.expr_places.specs.Reads.{ReadPlace, reads_of}
 use Rattle.expr_places.specs.declared.scope.Scope.{Scope}
 use Rattle.formula_refute.specs.Claims.{Claim}
-use Rattle.formula_refute.specs.Domains.{domain_claim}
-use Rattle.life_sets.specs.Cells.{shared, other}
-use Rattle.order_sets.specs.NotBefore.{not_before}
+use Rattle.life_sets.specs.Beside.{writer_domain, stores_into, comes_before}
 use Rattle.order_sets.specs.Orders.{StatedClaim}
-use Rattle.order_sets.specs.Visits.{read_visit, own_visit, writer_visit, time_rows}
+use Rattle.order_sets.specs.Visits.{read_visit, own_visit, writer_visit}
 use Rattle.order_sets.specs.declared.visit.Visit.{Visit}
-use Rattle.target_map.specs.Kinds.{tile_sizes}
 use Rattle.target_map.specs.Settings.{TargetMapping}
 use Rattle.target_map.specs.Storage.{writers_of}
 use Rattle.target_map.specs.Times.{domain_of, indices_of, outputs_of}
@@ -29,21 +25,13 @@ abbrev pub output_scope : System → ℕ → Scope
 output_scope p x = record { domains = p.pdom ∷ domain_of p x ∷ []; reductions = []; width = (domain_of p x).width }
 
 module _ (p : System) (m : TargetMapping) where
-  -- the writer is an instance
-  abbrev pub writer_domain : ℕ → ℕ → Claim
-  writer_domain width y = domain_claim (widened_domain (length p.params) (width - length p.params) (domain_of p y))
-
   -- it stores into the cell of what is there, and isn't before it
   abbrev pub stores_over : ℕ → ℕ → Visit → List Claim
-  stores_over width y visit =
-      let writer = writer_visit p y width in
-      writer_domain width y ∷ shared m writer visit ∷ other p writer visit ∷ not_before (tile_sizes m.kinds) (time_rows m writer) (time_rows m visit) ∷ []
+  stores_over width y visit = writer_domain p width y ∷ stores_into p m (writer_visit p y width) visit
 
   -- it isn't the reader, and doesn't come after it
   abbrev pub before_reader : ℕ → ℕ → Visit → List Claim
-  before_reader width y reader =
-      let writer = writer_visit p y width in
-      other p writer reader ∷ not_before (tile_sizes m.kinds) (time_rows m reader) (time_rows m writer) ∷ []
+  before_reader width y reader = comes_before p m (writer_visit p y width) reader
 
   abbrev pub life_claim : ℕ → ReadPlace → ℕ → Claim
   life_claim x read y =

@@ -1,17 +1,16 @@
 -- Where the formulas of cells are true, and of two instances.
-use Rattle.std.proofs.Common.{◌≡◌, ◌⊎◌, inl, inr, ◌↔◌, ℕ, zero, suc, ◌≤◌, ◌+◌, ◌-◌, arith, List, [], ◌∷◌, ◌++◌, length, take, drop, map, Bool, true, false, refl, sym, ap, ap₂, subst, ◌∙◌, length-drop}
+use Rattle.std.proofs.Common.{◌≡◌, inl, inr, ◌↔◌, ℕ, zero, suc, ◌-◌, arith, List, [], ◌∷◌, ◌++◌, length, take, drop, Bool, true, false, refl, sym, ap, ap₂, ◌∙◌, length-drop}
 use Rattle.std.specs.Prelude.{ℤ, pos, ◌==◌, if◌then◌else◌}
 use Rattle.std.proofs.lemmas.Bool.{eqb-true, eq-eqb}
 use Rattle.std.proofs.lemmas.Int.{ints}
 use Rattle.std.proofs.lemmas.List.{take-append-drop}
 use Rattle.az_lin.specs.Affine.{Affine, value_at, image_of}
-use Rattle.az_lin.specs.Difference.{apart_by}
 use Rattle.az_lin.proofs.Difference.{value_at-apart_by}
 use Rattle.az_ast.specs.System.{System}
-use Rattle.formula_refute.specs.Claims.{Claim, any_of, all_of, claims, none, IsTrueAt}
+use Rattle.formula_refute.specs.Claims.{any_of, all_of, claims, none, IsTrueAt}
 use Rattle.target_map.specs.Lifetime.{IsOther}
 use Rattle.target_map.specs.Storage.{MayMeet, MayShare}
-use Rattle.order_sets.specs.NotBefore.{both_ways, apart, each_pair, values}
+use Rattle.order_sets.specs.NotBefore.{apart, each_pair, values}
 use Rattle.order_sets.specs.declared.visit.Visit.{Visit}
 use Rattle.order_sets.proofs.Joined.{Each, Some}
 use Rattle.order_sets.proofs.Pairs.{same_to, same_from, apart_or, apart_to}

@@ -1,5 +1,5 @@
 -- The instances of a complete mapping's formulas have both maps.
-use Rattle.std.proofs.Common.{◌≡◌, ℕ, ◌+◌, ◌≤◌, [], ◌∷◌, length, map, refl, sym, ap, ◌∙◌, arith, length-append}
+use Rattle.std.proofs.Common.{◌≡◌, ℕ, ◌+◌, ◌≤◌, length, sym, ◌∙◌, arith}
 use Rattle.std.proofs.lemmas.List.FromFn.{length-map-range_with_len}
 use Rattle.az_lin.specs.Affine.{AffineMap}
 use Rattle.az_lin.specs.Columns.{extended, unit_row, unit_rows}
@@ -10,7 +10,6 @@ use Rattle.life_sets.specs.Beside.{IsWriter}
 use Rattle.life_sets.specs.Ready.{IsOwn}
 use Rattle.life_sets.specs.Stored.{IsStored}
 use Rattle.order_sets.specs.Reading.{IsReadOf}
-use Rattle.order_sets.specs.Timed.{IsTimed}
 use Rattle.order_sets.specs.Visits.{no_rows, read_visit, own_visit, writer_visit}
 use Rattle.order_sets.specs.declared.visit.Visit.{Visit}
 use Rattle.order_sets.proofs.Timed.{width_is, width_at, timed}

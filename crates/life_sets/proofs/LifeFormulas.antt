@@ -1,5 +1,5 @@
 -- The formulas of a read and of an output beside a writer, where what is made on the way fits.
-use Rattle.std.proofs.Common.{◌≡◌, ℕ, List, [], ◌∷◌, ◌++◌, ap, ap₂, ◌∙◌, append_assoc, Option, Some, None}
+use Rattle.std.proofs.Common.{◌≡◌, ℕ, List, ◌++◌, ap, ap₂, ◌∙◌, append_assoc, Option, Some, None}
 use Rattle.az_ast.specs.System.{System}
 use Rattle.domain_check.specs.Context.{context}
 use Rattle.expr_places.specs.Reads.{ReadPlace}

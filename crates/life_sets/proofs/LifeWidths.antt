@@ -1,12 +1,11 @@
 -- The rows of the formulas have the width of their columns.
-use Rattle.std.proofs.Common.{◌≡◌, ℕ, zero, suc, ◌+◌, ◌-◌, ◌≤◌, ℤ, pos, List, [], ◌∷◌, ◌++◌, length, map, max, min, take, drop, replicate, Bool, true, false, All, refl, sym, ap, subst, ◌∙◌, arith, length-append, length-drop}
+use Rattle.std.proofs.Common.{◌≡◌, ℕ, zero, suc, ◌+◌, ◌-◌, ◌≤◌, ℤ, pos, List, [], ◌∷◌, ◌++◌, length, map, max, take, drop, replicate, Bool, true, false, All, refl, sym, ap, subst, ◌∙◌, arith, length-append, length-drop}
 use Rattle.std.specs.Prelude.{◌==◌, if◌then◌else◌}
 use Rattle.std.specs.List.{AllByRecursion, flat_map}
 use Rattle.std.proofs.lemmas.List.{length-take, length-replicate}
 use Rattle.std.proofs.lemmas.List.Elements.{All-nil, All-cons, All-head, All-tail, All-append, All-drop, recursion_from_All}
 use Rattle.az_lin.specs.Affine.{Affine, Polyhedron, Union, HasWidth}
 use Rattle.az_lin.specs.Columns.{with_zeros, widened, widened_conj, widened_domain}
-use Rattle.az_lin.specs.Difference.{apart_by}
 use Rattle.az_ast.specs.Rows.{IsRowAt, IsConjAt, IsDomainAt}
 use Rattle.az_ast.specs.Shapes.{IsProgram}
 use Rattle.az_ast.specs.System.{System}
@@ -15,22 +14,21 @@ use Rattle.domain_check.specs.Context.{over, context}
 use Rattle.domain_check.proofs.DomainClaims.{domain_has}
 use Rattle.domain_check.proofs.Widths.{each_join}
 use Rattle.expr_places.specs.Reads.{ReadPlace, reads_of}
-use Rattle.formula_refute.specs.Claims.{Claim, all_of, any_of, claims, none, EachRow, EachRowBelow, IsOver}
+use Rattle.formula_refute.specs.Claims.{Claim, all_of, any_of, claims, none, IsOver}
 use Rattle.formula_refute.specs.Domains.{domain_claim}
 use Rattle.life_sets.specs.Beside.{writer_domain, stores_into, comes_before}
 use Rattle.life_sets.specs.Cells.{meets, same_cell, cell_map, shared, other}
 use Rattle.life_sets.specs.Lifetimes.{with_writer, output_scope, stores_over, before_reader, life_claim, keep_claim, life_of, keep_of, lives_from, lifetimes}
 use Rattle.life_sets.specs.Ready.{IsOwn, IsReadyEquation}
-use Rattle.order_sets.specs.NotBefore.{both_ways, apart, each_pair, not_before}
+use Rattle.order_sets.specs.NotBefore.{both_ways, apart, each_pair}
 use Rattle.order_sets.specs.Orders.{StatedClaim}
-use Rattle.order_sets.specs.Reading.{IsReadOf, HasReads}
+use Rattle.order_sets.specs.Reading.{IsReadOf}
 use Rattle.order_sets.specs.Stated.{IsRefutable}
-use Rattle.order_sets.specs.Visits.{read_visit, own_visit, writer_visit, time_rows}
+use Rattle.order_sets.specs.Visits.{read_visit, own_visit, writer_visit}
 use Rattle.order_sets.specs.declared.visit.Visit.{Visit}
 use Rattle.order_sets.proofs.Visits.{read_wide, own_wide, writer_wide}
 use Rattle.order_sets.proofs.Widths.{EachFit, Fit, AreOver, below_from, apart_over, both_over, apart_pair_over, each_over, each_turned, all_fit, composed_wide, visits_over}
-use Rattle.target_map.specs.Kinds.{tile_sizes}
-use Rattle.target_map.specs.Settings.{TargetMapping, IsComplete, is_written}
+use Rattle.target_map.specs.Settings.{TargetMapping, IsComplete}
 use Rattle.target_map.specs.Storage.{writers_of}
 use Rattle.target_map.specs.Times.{storage_of, domain_of, indices_of, outputs_of}
 use Rattle.life_sets.proofs.Own.{own_rows, all_ready, outputs_own, writers_own}

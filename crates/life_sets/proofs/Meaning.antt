@@ -1,6 +1,6 @@
 -- The formulas of the lifetimes mean what they are to.
-use Rattle.std.proofs.Common.{◌≡◌, ◌↔◌, ℕ, ◌+◌, ◌-◌, ◌≤◌, List, [], ◌∷◌, ◌++◌, length, take, drop, map, Bool, true, false, Option, Some, None, not, cond, refl, sym, ap, ap₂, subst, ◌∙◌, arith, All}
-use Rattle.std.specs.Prelude.{ℤ, slice_get, if◌then◌else◌, filter}
+use Rattle.std.proofs.Common.{◌≡◌, ◌↔◌, ℕ, ◌+◌, ◌-◌, ◌≤◌, List, [], ◌∷◌, ◌++◌, length, take, drop, Bool, true, false, Option, Some, None, not, cond, refl, sym, ap, ap₂, subst, ◌∙◌, arith, All}
+use Rattle.std.specs.Prelude.{ℤ, slice_get, filter}
 use Rattle.std.specs.FinMap.{get}
 use Rattle.std.specs.List.{AllByRecursion, range_with_len}
 use Rattle.std.specs.Option.{option_map_or}
@@ -8,10 +8,9 @@ use Rattle.std.specs.Str.{bytes_eq}
 use Rattle.std.proofs.lemmas.List.{take-take, length-take-le}
 use Rattle.std.proofs.lemmas.List.FromFn.{length-map-range_with_len}
 use Rattle.std.proofs.lemmas.List.Elements.{All-nil, All-cons, All-head, All-tail, recursion_from_All}
-use Rattle.az_lin.specs.Affine.{Affine, AffineMap, Union, HasWidth, HoldsSome, image_of}
-use Rattle.az_lin.specs.Columns.{reading, extended, unit_row, without, widened_domain}
+use Rattle.az_lin.specs.Affine.{AffineMap, Union, HasWidth, HoldsSome, image_of}
+use Rattle.az_lin.specs.Columns.{extended, unit_row, without}
 use Rattle.az_lin.proofs.Substitution.{image_of-composed}
-use Rattle.az_ast.specs.Certified.{IsInContext}
 use Rattle.az_ast.specs.Shapes.{IsProgram, is_input, of_variable}
 use Rattle.az_ast.specs.System.{System}
 use Rattle.az_ast.specs.declared.program.Equation.{Equation}
@@ -22,14 +21,13 @@ use Rattle.domain_check.specs.Context.{context}
 use Rattle.domain_check.proofs.Building.{reading_rows}
 use Rattle.domain_check.proofs.Readiness.{item_at}
 use Rattle.expr_places.specs.Reads.{ReadPlace, reads_of}
-use Rattle.expr_places.specs.declared.scope.Scope.{Scope}
-use Rattle.formula_refute.specs.Claims.{Claim, claims, IsTrueAt}
+use Rattle.formula_refute.specs.Claims.{Claim, IsTrueAt}
 use Rattle.target_map.specs.Dependence.{point_read, point_of}
 use Rattle.target_map.specs.Kinds.{tile_sizes}
 use Rattle.target_map.specs.Lifetime.{writer_point, IsOther, StoresOver, IsStoredOver, IsOutputLost}
 use Rattle.target_map.specs.Settings.{TargetMapping, IsMapping, IsComplete, is_written}
 use Rattle.target_map.specs.Storage.{MayShare, shares_space, writers_of}
-use Rattle.target_map.specs.Times.{storage_of, stamp_at, cell_at, domain_of, indices_of, outputs_of, is_output, IsBefore}
+use Rattle.target_map.specs.Times.{storage_of, stamp_at, cell_at, domain_of, indices_of, is_output, IsBefore}
 use Rattle.target_map.specs.declared.storage.Storage.{Storage}
 use Rattle.order_sets.specs.NotBefore.{not_before, values, stamp_values}
 use Rattle.order_sets.specs.Visits.{no_rows, read_visit, own_visit, writer_visit, time_rows}

@@ -1,6 +1,6 @@
 -- Outputs and locals: their numbers, columns and rows.
-use Rattle.std.proofs.Common.{◌≡◌, ℕ, ◌≤◌, length, List, [], ◌∷◌, All, Some, sym, ap, subst, true}
-use Rattle.std.specs.Prelude.{slice_get, filter}
+use Rattle.std.proofs.Common.{◌≡◌, ℕ, ◌≤◌, length, List, [], ◌∷◌, All, Some, sym, ap, subst}
+use Rattle.std.specs.Prelude.{slice_get}
 use Rattle.std.specs.List.{range_with_len}
 use Rattle.std.specs.Option.{option_map_or}
 use Rattle.std.proofs.lemmas.List.Elements.{All-nil, All-cons, All-head, All-tail, recursion_from_All}
@@ -15,7 +15,7 @@ use Rattle.domain_check.proofs.ProgramReady.{program_ready}
 use Rattle.domain_check.proofs.Readiness.{item_at}
 use Rattle.expr_places.specs.Reads.{ReadPlace, reads_of}
 use Rattle.life_sets.specs.Ready.{IsOwn, IsReadyEquation}
-use Rattle.order_sets.specs.Reading.{IsReadOf, HasReads}
+use Rattle.order_sets.specs.Reading.{HasReads}
 use Rattle.order_sets.proofs.ReadFacts.{ready_reads}
 use Rattle.order_sets.proofs.Timed.{declared, within}
 use Rattle.target_map.specs.Settings.{TargetMapping, IsComplete, is_written}

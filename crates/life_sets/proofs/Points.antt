@@ -1,8 +1,8 @@
 -- Points that begin with the parameters, and rows that don't reach the writer's columns.
-use Rattle.std.proofs.Common.{◌≡◌, ℕ, zero, suc, ◌+◌, ◌≤◌, arith, List, [], ◌∷◌, ◌++◌, length, take, drop, map, All, refl, sym, ap, ap₂, subst, ◌∙◌}
+use Rattle.std.proofs.Common.{◌≡◌, ℕ, zero, suc, ◌≤◌, arith, List, [], ◌∷◌, ◌++◌, length, take, map, All, refl, sym, ap, ap₂, ◌∙◌}
 use Rattle.std.specs.Prelude.{ℤ, ◌+ℤ◌}
 use Rattle.std.proofs.lemmas.List.Elements.{All-head, All-tail}
-use Rattle.az_lin.specs.Affine.{Affine, AffineMap, HasWidth, dot, value_at, image_of}
+use Rattle.az_lin.specs.Affine.{Affine, HasWidth, dot, value_at}
 use Rattle.az_lin.proofs.Columns.{dot-take}
 
 pub take_front : {A : Type 0} (n : ℕ) (z xs : List A) → n ≤ length z → take n (take n z ++ xs) ≡ take n z

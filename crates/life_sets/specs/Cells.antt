@@ -1,5 +1,5 @@
 -- The formulas that are true where two instances may be kept in one cell, and where they are two.
-use Rattle.std.specs.Prelude.{ℕ, zero, suc, ◌==◌, if◌then◌else◌, List, [], ◌∷◌, length, drop, ℤ, pos}
+use Rattle.std.specs.Prelude.{ℕ, zero, suc, ◌==◌, if◌then◌else◌, List, [], ◌∷◌, length, drop, pos}
 use Rattle.az_lin.specs.Affine.{Affine, AffineMap}
 use Rattle.az_lin.specs.Difference.{apart_by}
 use Rattle.az_lin.specs.Substitution.{composed_map}

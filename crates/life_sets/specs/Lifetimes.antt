@@ -1,7 +1,7 @@
 -- The formulas of the lifetimes, in order: for each read of each equation and each writer of the space of what is
 -- read, true where the writer stores over what is read before it is; then for each output and each writer of its
 -- space, true where the writer stores over its value.
-use Rattle.std.specs.Prelude.{ℕ, suc, ◌+◌, ◌-◌, List, [], ◌∷◌, ◌++◌, length, map}
+use Rattle.std.specs.Prelude.{ℕ, suc, ◌+◌, List, [], ◌∷◌, ◌++◌, map}
 use Rattle.std.specs.List.{flat_map}
 use Rattle.az_ast.specs.System.{System}
 use Rattle.domain_check.specs.Context.{in_force}

@@ -1,9 +1,8 @@
-use Rattle.std.proofs.Common.{◌≡◌, ◌≤◌, ℕ, [], ◌∷◌, length, sym, ap, subst, All, arith}
+use Rattle.std.proofs.Common.{◌≡◌, ◌≤◌, [], ◌∷◌, length, sym, ap, subst, All, arith}
 use Rattle.std.proofs.lemmas.List.Elements.{All-nil, All-cons}
 use Rattle.az_lin.specs.Affine.{Union}
 use Rattle.expr_places.specs.declared.scope.Scope.{Scope}
 use Rattle.life_sets.specs.Beside.{IsWriter}
-use Rattle.life_sets.specs.Lifetimes.{output_scope}
 use Rattle.life_sets.specs.Stored.{IsStored, FitsVisit, IsInstance}
 use Rattle.life_sets.proofs.Instances.{is_writer, own_rows, stored_own}
 use Rattle.life_sets.proofs.LifeFormulas.{over_claims, keep_made}

@@ -1,15 +1,13 @@
-use Rattle.std.proofs.Common.{◌≡◌, ◌≤◌, ◌∙◌, [], ◌∷◌, ◌++◌, length, refl, sym, ap, subst, Option, arith}
+use Rattle.std.proofs.Common.{◌≤◌, ◌∙◌, [], ◌++◌, length, sym, ap, subst, arith}
 use Rattle.std.proofs.lemmas.List.Elements.{All-from_recursion}
 use Rattle.az_lin.specs.Affine.{Union}
 use Rattle.expr_places.specs.Lent.{read_of}
-use Rattle.formula_refute.specs.Claims.{all_of, claims}
 use Rattle.life_sets.specs.Beside.{comes_before}
 use Rattle.life_sets.specs.Stored.{IsStored, FitsVisit, IsInstance}
 use Rattle.life_sets.proofs.Instances.{is_writer, read_rows, own_rows, writer_rows, stored_read}
 use Rattle.life_sets.proofs.LifeFormulas.{over_claims, life_made}
 use Rattle.life_sets.proofs.Pushes.{own_instance}
-use Rattle.order_sets.specs.Made.{AreMade}
-use Rattle.order_sets.specs.Visits.{read_visit, own_visit, writer_visit, time_rows}
+use Rattle.order_sets.specs.Visits.{read_visit, writer_visit, time_rows}
 use Rattle.order_sets.specs.declared.visit.Visit.{Visit}
 use Rattle.order_sets.proofs.Formulas.{lacks, has}
 use Rattle.order_sets.proofs.Making.{new_made, all_made}

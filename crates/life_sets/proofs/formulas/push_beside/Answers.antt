@@ -1,16 +1,14 @@
-use Rattle.std.proofs.Common.{◌≡◌, ℕ, ◌+◌, ◌≤◌, List, [], ◌∷◌, ◌++◌, length, refl, sym, ap, ap₂, subst, ◌∙◌, arith}
+use Rattle.std.proofs.Common.{ℕ, List, [], ◌∷◌, ◌++◌, length, ap, ap₂, ◌∙◌, arith}
 use Rattle.domain_check.specs.Context.{context}
 use Rattle.expr_places.specs.declared.scope.Scope.{Scope}
 use Rattle.formula_refute.specs.Claims.{Claim}
 use Rattle.life_sets.specs.Beside.{writer_domain, stores_into}
 use Rattle.life_sets.specs.Lifetimes.{with_writer, stores_over}
-use Rattle.life_sets.specs.Stored.{IsInstance}
 use Rattle.life_sets.proofs.Instances.{writer_rows}
 use Rattle.life_sets.proofs.Pushes.{own_instance, all_wider, joined}
 use Rattle.order_sets.specs.Visits.{writer_visit}
 use Rattle.order_sets.specs.declared.visit.Visit.{Visit}
 use Rattle.order_sets.proofs.Making.{made_same}
-use Rattle.target_map.specs.Times.{domain_of, indices_of}
 use Rattle.life_sets.proofs.formulas.push_beside.Goals as goal
 
 pub push_context-requires-clause-inside : goal.push_context-requires-clause-inside

@@ -18,7 +18,6 @@ use Rattle.order_sets.proofs.Places.{taken_next, get_same}
 use Rattle.target_map.specs.Kinds.{tile_sizes}
 use Rattle.target_map.specs.Settings.{IsComplete}
 use Rattle.target_map.specs.Storage.{writers_of}
-use Rattle.target_map.specs.Times.{outputs_of}
 use Rattle.life_sets.proofs.lifetimes.lifetime_formulas.Goals as goal
 
 pub push_reads-requires-clause-target : goal.push_reads-requires-clause-target

@@ -1,11 +1,11 @@
-use Rattle.std.proofs.Common.{◌≡◌, ◌∙◌, ℕ, ◌+◌, ◌<◌, List, [], ◌∷◌, ◌++◌, length, map, take, ap, ap₂, sym, subst, All, arith}
+use Rattle.std.proofs.Common.{◌≡◌, ◌∙◌, ℕ, ◌+◌, ◌<◌, List, ◌++◌, length, map, take, ap, ap₂, sym, subst, All, arith}
 use Rattle.domain_check.proofs.Grown.{taken_all}
 use Rattle.expr_places.specs.declared.scope.Scope.{Scope}
 use Rattle.formula_refute.specs.Claims.{Claim, claim}
 use Rattle.formula_refute.specs.declared.formula.Formula.{Formula}
 use Rattle.life_sets.specs.Beside.{IsWriter}
 use Rattle.life_sets.specs.Fits.{FitsKeep}
-use Rattle.life_sets.specs.Lifetimes.{keep_claim, keep_of, output_scope}
+use Rattle.life_sets.specs.Lifetimes.{keep_claim, keep_of}
 use Rattle.life_sets.specs.Ready.{IsOwn}
 use Rattle.life_sets.proofs.Instances.{is_writer}
 use Rattle.order_sets.specs.Orders.{StatedClaim}

@@ -1,7 +1,6 @@
-use Rattle.std.proofs.Common.{◌≡◌, ◌∙◌, ◌≤◌, ap, sym, subst, map, arith}
-use Rattle.az_lin.specs.Affine.{Union}
+use Rattle.std.proofs.Common.{◌≡◌, ◌∙◌, ap, sym, subst, map, arith}
 use Rattle.expr_places.specs.declared.scope.Scope.{Scope}
-use Rattle.life_sets.specs.Lifetimes.{keep_of, output_scope}
+use Rattle.life_sets.specs.Lifetimes.{keep_of}
 use Rattle.life_sets.specs.Stored.{IsStored, FitsVisit, IsInstance}
 use Rattle.life_sets.proofs.Instances.{stored_own}
 use Rattle.life_sets.proofs.LifeListing.{output_appends, scope_of_output}

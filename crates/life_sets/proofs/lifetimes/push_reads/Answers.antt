@@ -1,4 +1,4 @@
-use Rattle.std.proofs.Common.{◌≡◌, ◌∙◌, ℕ, ◌+◌, ◌<◌, List, [], ◌∷◌, ◌++◌, length, map, take, ap, sym, subst, All, arith}
+use Rattle.std.proofs.Common.{◌≡◌, ◌∙◌, ◌+◌, ◌<◌, List, [], ◌∷◌, ◌++◌, length, map, take, ap, sym, subst, All, arith}
 use Rattle.std.proofs.lemmas.List.{length-map, length-take-le}
 use Rattle.domain_check.proofs.Grown.{mapped_at, taken_all}
 use Rattle.expr_places.specs.Lent.{place_of, read_of}
@@ -7,7 +7,6 @@ use Rattle.life_sets.specs.Fits.{FitsRead}
 use Rattle.life_sets.specs.Lifetimes.{life_of, lives_from}
 use Rattle.life_sets.specs.Ready.{IsOwn}
 use Rattle.life_sets.proofs.LifeListing.{lives_next, many_more}
-use Rattle.order_sets.specs.Orders.{StatedClaim}
 use Rattle.order_sets.specs.Reading.{IsReadOf}
 use Rattle.order_sets.specs.Stated.{stated_claim}
 use Rattle.order_sets.proofs.Listing.{mapped_next, all_more, still_stopped}

@@ -1,4 +1,4 @@
-use Rattle.std.proofs.Common.{◌≡◌, ◌∙◌, ℕ, ◌+◌, ◌<◌, List, [], ◌∷◌, ◌++◌, length, map, take, ap, ap₂, sym, subst, All, arith}
+use Rattle.std.proofs.Common.{◌≡◌, ◌∙◌, ℕ, ◌+◌, ◌<◌, List, ◌++◌, length, map, take, ap, ap₂, sym, subst, All, arith}
 use Rattle.domain_check.proofs.Grown.{taken_all}
 use Rattle.expr_places.specs.Lent.{read_of}
 use Rattle.formula_refute.specs.Claims.{Claim, claim}
@@ -14,7 +14,6 @@ use Rattle.order_sets.proofs.Formulas.{lacks, has}
 use Rattle.order_sets.proofs.Listing.{mapped_next, all_more, stated_more, item_has}
 use Rattle.order_sets.proofs.Places.{taken_next}
 use Rattle.target_map.specs.Storage.{writers_of}
-use Rattle.target_map.specs.Times.{indices_of}
 use Rattle.target_map.specs.declared.which.Which.TheVariants.{Life}
 use Rattle.life_sets.proofs.lifetimes.push_writers.Goals as goal
 

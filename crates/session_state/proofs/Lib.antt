@@ -4,3 +4,4 @@ pub mod Each
 pub mod Kept
 pub mod Ended
 pub mod Once
+pub mod Stopped

@@ -8,3 +8,5 @@ pub mod Steps
 pub mod Endings
 pub mod Texts
 pub mod Settings
+pub mod Session
+pub mod Stopping

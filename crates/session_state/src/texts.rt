@@ -1,10 +1,12 @@
 //! The text of a file, as commands read it.
 
+ghost use Rattle.std.specs.Prelude.{Some};
 ghost use Rattle.session_state.specs.Endings.{IsLeft};
-ghost use Rattle.session_state.specs.Steps.{Takes};
+ghost use Rattle.session_state.specs.Steps.{Takes, IsStopFor};
+ghost use Rattle.session_state.specs.declared.refusal.Refusal.TheVariants.{Text};
 ghost use Rattle.session_state.specs.Texts.{text_of};
 
-use crate::{Refusal, Stop, name};
+use crate::{Refusal, Stop, TextKind, name};
 use az_desk::{Call, Desk, DeskFault};
 use az_lin::{Limit, List};
 use std::alloc::Global;
@@ -20,5 +22,15 @@ pub fn text_of<D: Desk>(alloc: Global, desk: &mut D, file: &str) -> Result<List<
         Err(DeskFault::TooLong) => Err(Stop::Refused(Refusal::Limited(Limit::File))),
         Err(DeskFault::Failed) => Err(Stop::Fault(Call::Read(name))),
         Err(DeskFault::Memory) => Err(Stop::Memory),
+    }
+}
+
+/// Why a command stops for what is wrong with the text of a file.
+pub fn text_stop(alloc: Global, file: &str, kind: TextKind, place: usize) -> Stop
+    ensures { IsStopFor (Some (Text file.now kind place)) result }
+{
+    match name(alloc, file) {
+        Ok(file) => Stop::Refused(Refusal::Text(file, kind, place)),
+        Err(stop) => stop,
     }
 }

@@ -1,0 +1,3 @@
+pub mod OneCertificate
+pub mod Once
+pub mod Stops

@@ -76,7 +76,7 @@ one_bindings (word ∷ words) (a ∷ first) (b ∷ second) p q =
     let rest : first ≡ second = one_bindings words first second p.1 q.1 in
     cc
 
-one_plain : (plain : List (List ℕ)) (e f : Evaluation) → HasPlain plain e → HasPlain plain f → e ≡ f
+pub one_plain : (plain : List (List ℕ)) (e f : Evaluation) → HasPlain plain e → HasPlain plain f → e ≡ f
 one_plain plain e f p q =
     let words : e.program ∷ p.bindings ≡ f.program ∷ q.bindings = sym p.words ∙ q.words in
     let behind : p.bindings ≡ q.bindings = cc in

@@ -36,7 +36,7 @@ fn bindings_of(alloc: Global, words: &[&str]) -> Result<Option<List<Binding>>, A
 }
 
 /// The program and the bindings of plain words.
-fn of_plain(alloc: Global, plain: &[&str]) -> Result<Option<Evaluation>, AllocError>
+pub(crate) fn of_plain(alloc: Global, plain: &[&str]) -> Result<Option<Evaluation>, AllocError>
     ensures found { IfOk result (λ found. IfSome found (λ evaluation. HasPlain (map (λ word. word.now) plain.now) evaluation)) }
     ensures none { IfOk result (λ found. IfNone found ((evaluation : Asked) → HasPlain (map (λ word. word.now) plain.now) evaluation → ⊥)) }
 {

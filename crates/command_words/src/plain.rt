@@ -5,7 +5,7 @@ ghost use Rattle.command_words.specs.Words.{texts, is_plain, plain_words};
 
 use std::alloc::{AllocError, Global};
 
-fn is_plain(word: &str) -> bool
+pub(crate) fn is_plain(word: &str) -> bool
     ensures { result ≡ is_plain word.now }
 {
     match word.as_bytes() {

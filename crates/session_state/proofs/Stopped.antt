@@ -13,9 +13,10 @@ use Rattle.session_state.specs.declared.stop.Stop.TheVariants.{Refused, Fault, M
 
 module _ (front : List ℕ) {A : Type 0} (step : Step A) (old : Seen) where
   by_line : (between new : Seen) (refusal : Refusal) (stop : Stop) → step (Err (Refused refusal)) → between ≡ old → IsLineSaid front refusal between stop new → StopsBy front step old stop new
-  by_line between new refusal (Refused same) taken left (is, said) =
-      (subst (λ (r : Refusal). step (Err (Refused r))) (sym is) taken,
-      said ∙ (ap (said_more (line front refusal)) left ∙ ap (λ (r : Refusal). said_more (line front r) old) (sym is)))
+  by_line between new refusal (Refused same) taken left (is, said) = (
+    subst (λ (r : Refusal). step (Err (Refused r))) (sym is) taken,
+    said ∙ (ap (said_more (line front refusal)) left ∙ ap (λ (r : Refusal). said_more (line front r) old) (sym is)),
+  )
   by_line between new refusal (Fault call) taken left (is, said) = inr (is, (refusal, taken, subst (λ (s : Seen). SaysSome (line front refusal) s new) left said))
   by_line between new refusal Memory taken left said = said ∙ left
 

@@ -1,54 +1,29 @@
 -- A run is carried out or refused, and not both.
-use Rattle.std.proofs.Common.{◌≡◌, ℕ, List, [], ◌∷◌, refl, sym, ◌∙◌}
+use Rattle.std.proofs.Common.{◌≡◌, ℕ, List, [], ◌∷◌}
 use Rattle.std.specs.Prelude.{Some}
 use Rattle.std.specs.FinMap.{empty}
 use Rattle.az_ast.specs.System.{System}
 use Rattle.az_ast.specs.Tables.{Tables}
 use Rattle.az_desk.specs.Files.{Files}
-use Rattle.alphabets_read.specs.declared.fault.ReadFault.{ReadFault}
-use Rattle.alphabets_read.specs.declared.fault.ReadFault.TheVariants as fault
-use Rattle.alphabets_read.proofs.Once.{no_fault, one_program}
 use Rattle.command_words.proofs.OneEvaluation.{one_evaluation}
 use Rattle.command_words.specs.declared.binding.Binding.{Binding}
 use Rattle.command_words.specs.declared.binding.Binding.TheVariants.{Parameter, Table}
 use Rattle.command_words.specs.declared.evaluation.Evaluation.{Evaluation}
 use Rattle.data_commands.proofs.Once.{not_both_rows, one_read as one_read_input, not_both_read as not_both_read_input}
 use Rattle.data_commands.specs.Outputs.{output_rows}
-use Rattle.session_state.proofs.Once.{IsOne, NotBoth, one_then, not_both_then, one_answer, not_both_answers, one_setting, not_both_setting, one_text, not_both_text, one_each, not_both_each}
+use Rattle.session_state.proofs.Once.{IsOne, NotBoth, one_then, not_both_then, one_answer, not_both_answers, one_setting, not_both_setting, one_each, not_both_each}
 use Rattle.session_state.specs.Settings.{Settings, unset}
 use Rattle.session_state.specs.Steps.{◌>>=◌, each_in}
-use Rattle.session_state.specs.Texts.{text_of}
-use Rattle.alphaz_cli.proofs.OneCertificate.{certified_or_not}
 use Rattle.alphaz_cli.specs.Bound.{set_bound, read_bound}
 use Rattle.alphaz_cli.specs.Evaluation.{asked, evaluated, evaluation, run}
-use Rattle.alphaz_cli.specs.Programs.{text_refusal, program_in, certified, read_alphabets}
+use Rattle.program_commands.proofs.Once.{one_read, not_both_read}
+use Rattle.program_commands.specs.Programs.{read_alphabets}
 
 one_asked : (words : List (List ℕ)) → IsOne (asked words)
 one_asked words e f p q = one_evaluation words e f p q
 
 not_both_asked : (words : List (List ℕ)) → NotBoth (asked words)
 not_both_asked words e refusal p q = q.1 e p
-
-one_in : (file text : List ℕ) → IsOne (program_in file text)
-one_in file text p q h k = one_program text q p k h
-
-not_both_in : (file text : List ℕ) → NotBoth (program_in file text)
-not_both_in file text p refusal h (why, refused, is) = no_fault text p h why refused (λ e. let none : text_refusal file fault.Memory ≡ Some refusal = rw e at is in cc)
-
-one_certified : (p : System) → IsOne (certified p)
-one_certified p x y h k = h.0 ∙ sym k.0
-
-not_both_certified : (p : System) → NotBoth (certified p)
-not_both_certified p q refusal h (why, refuses, is) = certified_or_not p why refusal h.1 refuses is
-
-module _ (told : Files) (file : List ℕ) where
-  one_read : IsOne (read_alphabets (Some told) file)
-  one_read = one_then (text_of (Some told) file) (λ text. program_in file text >>= certified) (one_text told file) (λ text. one_then (program_in file text) certified (one_in file text) one_certified)
-
-  not_both_read : NotBoth (read_alphabets (Some told) file)
-  not_both_read =
-      not_both_then (text_of (Some told) file) (λ text. program_in file text >>= certified) (one_text told file) (not_both_text told file)
-      (λ text. not_both_then (program_in file text) certified (one_in file text) (not_both_in file text) not_both_certified)
 
 module _ (p : System) where
   one_bound : (settings : Settings) (binding : Binding) → IsOne (set_bound p settings binding)

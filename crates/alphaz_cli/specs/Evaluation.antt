@@ -16,7 +16,7 @@ use Rattle.session_state.specs.declared.stop.Stop.TheVariants.{Refused, Fault, M
 use Rattle.az_desk.specs.Desk.{Seen}
 use Rattle.alphaz_cli.specs.Bound.{set_bound, read_bound}
 use Rattle.alphaz_cli.specs.Outcomes.{outcome}
-use Rattle.alphaz_cli.specs.Programs.{read_alphabets}
+use Rattle.program_commands.specs.Programs.{read_alphabets}
 use Rattle.alphaz_cli.specs.declared.status.Status.{Status}
 
 abbrev pub asked : List (List ℕ) → Step Evaluation

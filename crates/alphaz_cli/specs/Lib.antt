@@ -1,4 +1,3 @@
 pub mod Bound
 pub mod Evaluation
 pub mod Outcomes
-pub mod Programs

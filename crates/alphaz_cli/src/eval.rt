@@ -5,12 +5,12 @@ ghost use Rattle.session_state.specs.Endings.{IsLeft};
 ghost use Rattle.session_state.specs.Steps.{Takes};
 
 use crate::bound::{read_all, set_all};
-use crate::program::read_alphabets;
 use az_ast::Checked;
 use az_desk::Desk;
 use az_lin::List;
 use command_words::Evaluation;
 use data_commands::output_rows;
+use program_commands::read_alphabets;
 use session_state::Stop;
 use std::alloc::Global;
 

@@ -7,7 +7,6 @@ mod bound;
 #[cfg(test)]
 mod cases;
 mod eval;
-mod program;
 mod run;
 mod status;
 #[cfg(test)]

@@ -5,7 +5,7 @@ use Rattle.session_state.proofs.Taking.{stops_first, goes_on, left_then, left_st
 use Rattle.session_state.specs.Steps.{Takes}
 use Rattle.az_ast.specs.System.{System}
 use Rattle.alphaz_cli.specs.Evaluation.{evaluated}
-use Rattle.alphaz_cli.specs.Programs.{read_alphabets}
+use Rattle.program_commands.specs.Programs.{read_alphabets}
 use Rattle.alphaz_cli.proofs.eval.eval.Goals as goal
 
 pub returns-in_err-checked-clause-answer : goal.returns-in_err-checked-clause-answer

@@ -1,6 +1,0 @@
-use Rattle.alphaz_cli.proofs.Stops.{uncertified_stops}
-use Rattle.alphaz_cli.proofs.program.certified.Goals as goal
-
-pub returns-in-Err : goal.returns-in-Err
-returns-in-Err c =
-    uncertified_stops c.args.program c.in-Err.program c.in-Err.fault c.uncertified.result c.in-Err.ensures.answer.0 c.in-Err.ensures.answer.1 c.uncertified.ensures

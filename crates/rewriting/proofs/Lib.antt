@@ -1,0 +1,12 @@
+pub mod Accesses
+pub mod Answered
+pub mod Bodies
+pub mod EquationSteps
+pub mod ExprOf
+pub mod FineParts
+pub mod Items
+pub mod Lookups
+pub mod Made
+pub mod Moved
+pub mod PlaceColumns
+pub mod Shaped

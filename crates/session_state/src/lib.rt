@@ -20,7 +20,7 @@ mod variants;
 pub use lines::line;
 pub use refusal::{Refusal, Spot, TextKind};
 pub use saying::say;
-pub use session::{Loaded, Session, fresh, no_program, opened};
+pub use session::{Loaded, Session, change, fresh, no_program, opened};
 pub use settings::{set_parameter, unset};
 pub use stop::{Stop, name, status};
 pub use stopping::say_stop;

@@ -2,8 +2,7 @@
 
 ghost use Rattle.std.specs.Prelude.{◌≡◌, Some, IfOk, IfErr};
 ghost use Rattle.az_ast.specs.declared.reason.Reason.TheVariants.{NoProgram};
-ghost use Rattle.session_state.specs.Session.{IsSound, fresh, opened, lent};
-ghost use Rattle.session_state.specs.Settings.{AreSettings};
+ghost use Rattle.session_state.specs.Session.{IsOfProgram, IsSound, changed, fresh, opened, lent};
 ghost use Rattle.session_state.specs.Steps.{TakesAlone};
 ghost use Rattle.session_state.specs.declared.refusal.Refusal.TheVariants.{Command};
 ghost use Rattle.session_state.specs.declared.stop.Stop.TheVariants.{Refused, Memory};
@@ -12,8 +11,9 @@ use crate::{Refusal, Stop, unset};
 use az_ast::{Checked, Inputs, Reason};
 use az_lin::List;
 use std::alloc::Global;
+use target_map::Mapping;
 
-/// A program, and what was set and read for it.
+/// A program, and what was set, read and mapped for it.
 #[derive(Debug, Drop)]
 pub struct Loaded {
     /// As it was read.
@@ -24,6 +24,8 @@ pub struct Loaded {
     pub settings: List<Option<i128>>,
     /// The tables of inputs that were read.
     pub inputs: Inputs,
+    /// When the instances of the current program are carried out, and where their values are kept.
+    pub mapping: Mapping,
 }
 
 /// Nothing before a program is read.
@@ -44,7 +46,17 @@ pub fn fresh(alloc: Global, program: Checked) -> Result<Loaded, Stop>
         current,
         settings,
         inputs: Inputs::new(alloc),
+        mapping: Mapping::new(alloc),
     })
+}
+
+/// Puts another program with the same parameters in the place of the current one.
+pub fn change(alloc: Global, loaded: &mut Loaded, program: Checked)
+    ensures value { loaded.new ≡ changed loaded.old program }
+    ensures sound { program.params ≡ loaded.old.current.params → IsOfProgram loaded.old → IsOfProgram loaded.new }
+{
+    loaded.current = program;
+    loaded.mapping = Mapping::new(alloc);
 }
 
 /// Why every command but the first stops where no program was read.
@@ -57,7 +69,7 @@ pub fn no_program() -> Stop
 /// The program that commands work on.
 pub fn opened(session: &Session) -> Result<&Loaded, Stop>
     ensures answer { TakesAlone (opened session.now) (lent result) }
-    ensures sound { IsSound session.now → IfOk result (λ loaded. AreSettings loaded.now.current loaded.now.settings) }
+    ensures sound { IsSound session.now → IfOk result (λ loaded. IsOfProgram loaded.now) }
 {
     match session {
         Some(loaded) => Ok(loaded),

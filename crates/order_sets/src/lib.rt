@@ -18,7 +18,7 @@ mod time_rows;
 mod visit;
 
 pub use before::not_before;
-pub use context::{push_context, push_domain};
+pub use context::{context_over, push_context, push_domain, push_domains};
 pub use laws::order_is_meant;
 pub use members::{Members, difference};
 pub use orders::dependence_formulas;

@@ -1,0 +1,26 @@
+use Rattle.std.proofs.Common.{◌≡◌, List, ℕ, rules, sym, subst}
+use Rattle.std.specs.Prelude.{Some, Ok, Err}
+use Rattle.az_ast.specs.System.{System}
+use Rattle.session_state.specs.Session.{Session}
+use Rattle.session_state.specs.Steps.{TakesAlone}
+use Rattle.session_state.specs.declared.session.Loaded.{Loaded}
+use Rattle.mapping_commands.specs.Commands.{mapped, set_space_time_map}
+use Rattle.mapping_commands.specs.Parts.{time_set}
+use Rattle.mapping_commands.proofs.Setting.{part_stops, part_left}
+use Rattle.mapping_commands.proofs.commands.set_space_time_map.Goals as goal
+
+pub returns-in_err-mapping-clause-answer : goal.returns-in_err-mapping-clause-answer
+returns-in_err-mapping-clause-answer c =
+    let stop = c.in_err-mapping.field-0.0 in
+    let handed : c.from_residual.result ≡ Err stop = search rules in
+    let there : c.args.session.now ≡ Some c.in-Some.loaded = search rules in
+    rw handed (subst (λ (s : Session). TakesAlone (set_space_time_map s c.args.variable.now c.args.map.now) (Err stop)) (sym there)
+    (part_stops c.in-Some.loaded (λ (loaded : Loaded). time_set loaded.current loaded.mapping c.args.variable.now c.args.map.now) stop (subst (λ (p : System). TakesAlone (time_set p c.in-Some.loaded.mapping c.args.variable.now c.args.map.now) (Err stop)) c.program-program.ensures.value c.in_err-mapping.ensures.answer)))
+
+pub returns-clause-answer : goal.returns-clause-answer
+returns-clause-answer c =
+    let m = c.in_ok-mapping.mapping in
+    let there : c.args.session.now ≡ Some c.in-Some.loaded = search rules in
+    subst (λ (s : Session). TakesAlone (set_space_time_map s c.args.variable.now c.args.map.now) (Ok (record { session = Some (mapped c.in-Some.loaded m); text = c.new.result }))) (sym there)
+    (subst (λ (text : List ℕ). TakesAlone (set_space_time_map (Some c.in-Some.loaded) c.args.variable.now c.args.map.now) (Ok (record { session = Some (mapped c.in-Some.loaded m); text = text }))) (sym c.new.ensures)
+    (part_left c.in-Some.loaded (λ (loaded : Loaded). time_set loaded.current loaded.mapping c.args.variable.now c.args.map.now) m (subst (λ (p : System). TakesAlone (time_set p c.in-Some.loaded.mapping c.args.variable.now c.args.map.now) (Ok m)) c.program-program.ensures.value c.in_ok-mapping.ensures.answer)))

@@ -1,0 +1,26 @@
+use Rattle.std.proofs.Common.{◌≡◌, List, ℕ, rules, sym, subst}
+use Rattle.std.specs.Prelude.{Some, Ok, Err}
+use Rattle.az_ast.specs.System.{System}
+use Rattle.session_state.specs.Session.{Session}
+use Rattle.session_state.specs.Steps.{TakesAlone}
+use Rattle.session_state.specs.declared.session.Loaded.{Loaded}
+use Rattle.mapping_commands.specs.Commands.{mapped, set_statement_order}
+use Rattle.mapping_commands.specs.Parts.{order_set}
+use Rattle.mapping_commands.proofs.Setting.{part_stops, part_left}
+use Rattle.mapping_commands.proofs.commands.set_statement_order.Goals as goal
+
+pub returns-in_err-mapping-clause-answer : goal.returns-in_err-mapping-clause-answer
+returns-in_err-mapping-clause-answer c =
+    let stop = c.in_err-mapping.field-0.0 in
+    let handed : c.from_residual.result ≡ Err stop = search rules in
+    let there : c.args.session.now ≡ Some c.in-Some.loaded = search rules in
+    rw handed (subst (λ (s : Session). TakesAlone (set_statement_order s c.args.variables.now) (Err stop)) (sym there)
+    (part_stops c.in-Some.loaded (λ (loaded : Loaded). order_set loaded.current loaded.mapping c.args.variables.now) stop (subst (λ (p : System). TakesAlone (order_set p c.in-Some.loaded.mapping c.args.variables.now) (Err stop)) c.program-program.ensures.value c.in_err-mapping.ensures.answer)))
+
+pub returns-clause-answer : goal.returns-clause-answer
+returns-clause-answer c =
+    let m = c.in_ok-mapping.mapping in
+    let there : c.args.session.now ≡ Some c.in-Some.loaded = search rules in
+    subst (λ (s : Session). TakesAlone (set_statement_order s c.args.variables.now) (Ok (record { session = Some (mapped c.in-Some.loaded m); text = c.new.result }))) (sym there)
+    (subst (λ (text : List ℕ). TakesAlone (set_statement_order (Some c.in-Some.loaded) c.args.variables.now) (Ok (record { session = Some (mapped c.in-Some.loaded m); text = text }))) (sym c.new.ensures)
+    (part_left c.in-Some.loaded (λ (loaded : Loaded). order_set loaded.current loaded.mapping c.args.variables.now) m (subst (λ (p : System). TakesAlone (order_set p c.in-Some.loaded.mapping c.args.variables.now) (Ok m)) c.program-program.ensures.value c.in_ok-mapping.ensures.answer)))

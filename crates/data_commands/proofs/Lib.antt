@@ -5,3 +5,5 @@ pub mod Chains
 pub mod Answered
 pub mod Once
 pub mod Given
+pub mod OneCommand
+pub mod Opened

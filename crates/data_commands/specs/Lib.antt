@@ -1,3 +1,4 @@
 pub mod Parameters
 pub mod Tables
 pub mod Outputs
+pub mod Commands

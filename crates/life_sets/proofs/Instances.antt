@@ -1,7 +1,8 @@
 -- The instances of a complete mapping's formulas have both maps.
-use Rattle.std.proofs.Common.{◌≡◌, ℕ, ◌+◌, ◌≤◌, length, sym, ◌∙◌, arith}
+use Rattle.std.proofs.Common.{◌≡◌, ℕ, ◌+◌, ◌≤◌, List, [], ◌∷◌, length, All, sym, ◌∙◌, arith}
+use Rattle.std.proofs.lemmas.List.Elements.{All-nil, All-cons, All-head, All-tail}
 use Rattle.std.proofs.lemmas.List.FromFn.{length-map-range_with_len}
-use Rattle.az_lin.specs.Affine.{AffineMap}
+use Rattle.az_lin.specs.Affine.{AffineMap, Union}
 use Rattle.az_lin.specs.Columns.{extended, unit_row, unit_rows}
 use Rattle.az_ast.specs.System.{System}
 use Rattle.domain_check.proofs.Building.{reading_rows}
@@ -36,6 +37,18 @@ module _ (p : System) where
   is_writer y width own params few =
       let narrow = own.narrow in
       record { declared = own.declared; params = params; inside = own.params; narrow = omega (arith, narrow, few) }
+
+  pub are_writers : (ys : List ℕ) (width : ℕ) → All (IsOwn p) ys → length p.params ≤ width → width ≤ 64 → All (λ (y : ℕ). IsWriter p y width) ys
+  are_writers [] width own params few = All-nil (λ (y : ℕ). IsWriter p y width)
+  are_writers (y ∷ ys) width own params few =
+      All-cons (λ (z : ℕ). IsWriter p z width) y ys (is_writer y width (All-head (IsOwn p) y ys own) params few) (are_writers ys width (All-tail (IsOwn p) y ys own) params few)
+
+  -- the domains in force at an output
+  pub output_inside : (x : ℕ) → IsOwn p x → p.pdom.width ≡ length p.params → All (λ (domain : Union). domain.width ≤ (domain_of p x).width) (p.pdom ∷ domain_of p x ∷ [])
+  output_inside x own parameters =
+      let Fits : Union → Type 0 = λ domain. domain.width ≤ (domain_of p x).width in
+      let inside = own.params in
+      All-cons Fits p.pdom (domain_of p x ∷ []) (omega (arith, inside, parameters)) (All-cons Fits (domain_of p x) [] (omega arith) (All-nil Fits))
 
   module _ (m : TargetMapping) (complete : IsComplete p m) where
     stored : (visit : Visit) → is_written p visit.variable → length visit.at.rows ≡ width_of p visit.variable → width_of p visit.variable ≤ 64 → IsStored m visit

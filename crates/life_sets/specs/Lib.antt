@@ -4,4 +4,5 @@ pub mod Lifetimes
 pub mod Laws
 pub mod Stored
 pub mod Fits
+pub mod Around
 pub mod Ready

@@ -4,6 +4,7 @@
 //! and the contract of `lifetime_formulas` that they are made.
 #![tactic(auto)]
 
+mod around;
 mod beside;
 mod formulas;
 mod instance;

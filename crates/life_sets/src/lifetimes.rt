@@ -3,6 +3,7 @@
 ghost use Rattle.std.specs.Prelude.{◌≡◌, ◌≤◌, All, Contains, map, IfOk};
 ghost use Rattle.expr_places.specs.Lent.{read_of};
 ghost use Rattle.expr_places.specs.Reads.{reads_of};
+ghost use Rattle.life_sets.specs.Beside.{IsWriter};
 ghost use Rattle.life_sets.specs.Fits.{FitsKeep, FitsLife, FitsLifetimes, FitsOutput, FitsRead};
 ghost use Rattle.life_sets.specs.Lifetimes.{keep_of, life_of, lifetimes, lives_from, output_scope};
 ghost use Rattle.life_sets.specs.Ready.{IsOwn, IsReading, IsReadyEquation, IsTarget};
@@ -14,6 +15,7 @@ ghost use Rattle.target_map.specs.Settings.{IsComplete};
 ghost use Rattle.target_map.specs.Storage.{writers_of};
 ghost use Rattle.target_map.specs.Times.{domain_of};
 
+use crate::around::Around;
 use crate::formulas::{keep_formula, life_formula, width_beside};
 use crate::instance::Instance;
 use crate::reading::Reading;
@@ -26,6 +28,19 @@ use formula_refute::RefuteFault;
 use order_sets::{Stated, Visit, tile_sizes};
 use std::alloc::Global;
 use target_map::{Mapping, Which};
+
+/// The columns of a place, and behind them the indices of the first writer.
+fn first_width(target: &Target, width: usize, writers: &[u32]) -> usize
+    requires writers { All (λ y. IsWriter target.now.program.now y width) writers.now }
+    requires narrow { width ≤ 4096 }
+    ensures wide { width ≤ result }
+    ensures narrow { result ≤ 4096 }
+{
+    match writers.first() {
+        Some(y) => width_beside(target, width, *y),
+        None => width,
+    }
+}
 
 /// Appends the formulas of a read, one for each writer of its space.
 fn push_writers(
@@ -46,9 +61,11 @@ fn push_writers(
         Appends (All (FitsLife p m x place) (writers_of p m place.variable)) (map (life_of p m x number place) (writers_of p m place.variable)) list.old.items list.new.items result }
 {
     let writers = writers_of(alloc, target.program, target.mapping, read.variable)?;
+    let width = first_width(target, read.scope.width, &writers);
+    let around = Around::new(alloc, &read.scope, width)?;
     'writers: for place in 0..writers.len() {
         let y = writers[place];
-        let Some(formula) = life_formula(alloc, target, x, read, reading, y)? else {
+        let Some(formula) = life_formula(alloc, target, x, read, &around, reading, y)? else {
             return Err(RefuteFault::Entry);
         };
         list.push(Stated {
@@ -129,9 +146,11 @@ fn push_keeps(
         Appends (All (FitsKeep p m x) (writers_of p m x)) (map (keep_of p m x) (writers_of p m x)) list.old.items list.new.items result }
 {
     let writers = writers_of(alloc, target.program, target.mapping, x)?;
+    let width = first_width(target, scope.width, &writers);
+    let around = Around::new(alloc, scope, width)?;
     'writers: for place in 0..writers.len() {
         let y = writers[place];
-        let Some(formula) = keep_formula(alloc, target, x, scope, point, y)? else {
+        let Some(formula) = keep_formula(alloc, target, x, &around, point, y)? else {
             return Err(RefuteFault::Entry);
         };
         list.push(Stated {

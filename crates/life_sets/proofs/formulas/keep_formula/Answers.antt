@@ -1,10 +1,9 @@
-use Rattle.std.proofs.Common.{◌≡◌, ◌≤◌, [], ◌∷◌, length, sym, ap, subst, All, arith}
-use Rattle.std.proofs.lemmas.List.Elements.{All-nil, All-cons}
+use Rattle.std.proofs.Common.{◌≡◌, ◌≤◌, [], length, sym, ap, subst, All, arith}
 use Rattle.az_lin.specs.Affine.{Union}
 use Rattle.expr_places.specs.declared.scope.Scope.{Scope}
 use Rattle.life_sets.specs.Beside.{IsWriter}
 use Rattle.life_sets.specs.Stored.{IsStored, FitsVisit, IsInstance}
-use Rattle.life_sets.proofs.Instances.{is_writer, own_rows, stored_own}
+use Rattle.life_sets.proofs.Instances.{is_writer, own_rows, stored_own, output_inside}
 use Rattle.life_sets.proofs.LifeFormulas.{over_claims, keep_made}
 use Rattle.life_sets.proofs.Pushes.{own_instance}
 use Rattle.order_sets.specs.Visits.{own_visit, writer_visit}
@@ -24,7 +23,7 @@ pub returns-in_default : goal.returns-in_default
 returns-in_default c = λ fits.
     let p = c.args.target.now.program.now in
     let m = c.args.target.now.mapping.now in
-    let width = c.args.scope.now.width in
+    let width = c.args.around.now.scope.now.width in
     let same : width ≡ (domain_of p c.args.x).width = ap (λ (scope : Scope). scope.width) c.requires.scope in
     let visit = writer_visit p c.args.y width in
     lacks (FitsVisit m visit) (IsInstance m visit) c.in_ok-writer.field-0 c.in_ok-writer.ensures c.in_default.not-Some
@@ -35,7 +34,7 @@ push_beside-requires-clause-beside c =
     let p = c.args.target.now.program.now in
     let m = c.args.target.now.mapping.now in
     let x = c.args.x in
-    let scope = c.args.scope.now in
+    let scope = c.args.around.now.scope.now in
     let visit = writer_visit p c.args.y scope.width in
     let writer = has (FitsVisit m visit) (IsInstance m visit) c.in_ok-writer.field-0 c.in-Some.writer c.in_ok-writer.ensures c.in-Some.is in
     let own = (domain_of p x).width in
@@ -43,11 +42,9 @@ push_beside-requires-clause-beside c =
     let rows = own_rows p x own in
     let inside = c.requires.output.params in
     let same = ap (λ (v : Visit). length v.at.rows) point.at in
-    let parameters = c.requires.target.parameters in
-    let first : p.pdom.width ≤ own = omega (arith, inside, parameters) in
     record {
       inside = subst (λ (s : Scope). All (λ (domain : Union). domain.width ≤ s.width) s.domains) (sym c.requires.scope)
-          (All-cons (λ (domain : Union). domain.width ≤ own) p.pdom (domain_of p x ∷ []) first (All-cons (λ (domain : Union). domain.width ≤ own) (domain_of p x) [] (omega arith) (All-nil (λ (domain : Union). domain.width ≤ own))));
+          (output_inside p x c.requires.output c.requires.target.parameters);
       columns = subst (λ (s : Scope). IsWriter p c.args.y s.width) (sym c.requires.scope) (is_writer p c.args.y own c.requires.writer c.requires.output.params c.requires.output.narrow);
       stores = writer.0;
       there = own_instance m (own_visit p x own) c.args.point.now point;
@@ -59,7 +56,7 @@ pub returns : goal.returns
 returns c =
     let p = c.args.target.now.program.now in
     let m = c.args.target.now.mapping.now in
-    let scope = c.args.scope.now in
+    let scope = c.args.around.now.scope.now in
     let y = c.args.y in
     let same : scope.width ≡ (domain_of p c.args.x).width = ap (λ (s : Scope). s.width) c.requires.scope in
     let visit = writer_visit p y scope.width in

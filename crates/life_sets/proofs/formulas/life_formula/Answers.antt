@@ -2,11 +2,14 @@ use Rattle.std.proofs.Common.{◌≤◌, ◌∙◌, [], ◌++◌, length, sym, a
 use Rattle.std.proofs.lemmas.List.Elements.{All-from_recursion}
 use Rattle.az_lin.specs.Affine.{Union}
 use Rattle.expr_places.specs.Lent.{read_of}
+use Rattle.expr_places.specs.declared.scope.Scope.{Scope}
 use Rattle.life_sets.specs.Beside.{comes_before}
+use Rattle.life_sets.specs.Ready.{IsBeside}
 use Rattle.life_sets.specs.Stored.{IsStored, FitsVisit, IsInstance}
 use Rattle.life_sets.proofs.Instances.{is_writer, read_rows, own_rows, writer_rows, stored_read}
 use Rattle.life_sets.proofs.LifeFormulas.{over_claims, life_made}
 use Rattle.life_sets.proofs.Pushes.{own_instance}
+use Rattle.order_sets.specs.Made.{AreMade}
 use Rattle.order_sets.specs.Visits.{read_visit, writer_visit, time_rows}
 use Rattle.order_sets.specs.declared.visit.Visit.{Visit}
 use Rattle.order_sets.proofs.Formulas.{lacks, has}
@@ -36,14 +39,14 @@ push_beside-requires-clause-beside c =
     let width = width_at p read.variable of.variable of.declared in
     let sum = of.at.rows in
     let same = ap (λ (v : Visit). length v.at.rows) point.at in
-    record {
+    subst (λ (s : Scope). IsBeside p m s c.args.y c.in-Some.writer c.args.reading.now.point) (sym c.requires.scope) (record {
       inside = All-from_recursion (λ (domain : Union). domain.width ≤ read.scope.width) read.scope.domains of.inside;
       columns = is_writer p c.args.y read.scope.width c.requires.writer of.at.params of.narrow;
       stores = writer.0;
       there = own_instance m (read_visit p read) c.args.reading.now.point point;
       stored = subst (IsStored m) (sym point.at) (stored_read p m c.requires.target.complete c.args.x read of);
       rows = omega (arith, rows, width, sum, same);
-    }
+    })
 
 pub push_comes_before-requires-clause-writer : goal.push_comes_before-requires-clause-writer
 push_comes_before-requires-clause-writer c =
@@ -87,4 +90,5 @@ returns c =
     let after = comes_before p m c.in-Some.writer.visit reading.reader in
     life_made p m c.args.x read y reading.point.visit reading.reader c.in-Some.writer.visit c.all.result c.requires.reading.point.at c.requires.reading.reader writer.0.at writer.1
     (all_made (over_it ++ after) c.push_comes_before.new.members c.all.result c.all.ensures
-    (c.in_ok-push_comes_before.ensures over_it (c.in_ok-push_beside.ensures [] (new_made c.new-members.result c.new-members.ensures))))
+    (subst (λ (s : Scope). AreMade (over_claims p m s y reading.point.visit ++ after) c.push_comes_before.new.members) c.requires.scope
+    (c.in_ok-push_comes_before.ensures (over_claims p m c.args.around.now.scope.now y reading.point.visit) (c.in_ok-push_beside.ensures [] (new_made c.new-members.result c.new-members.ensures)))))

@@ -1,11 +1,11 @@
 -- Words cut at their first `=` or `@`: no name has one.
-use Rattle.std.proofs.Common.{◌≡◌, ℕ, ◌<◌, List, [], ◌∷◌, ◌++◌, length, get_or, true, false, Bool, refl, sym, subst, arith, ap, ◌∙◌}
+use Rattle.std.proofs.Common.{◌≡◌, ℕ, ◌<◌, List, [], ◌∷◌, ◌++◌, length, get_or, true, false, refl, sym, subst, arith, ap, ◌∙◌}
 use Rattle.std.proofs.lemmas.Bool.Decides.{nat_tests}
 use Rattle.std.proofs.lemmas.List.Elements.{All-from_recursion}
 use Rattle.std.proofs.lemmas.Str.Pattern.{IsSplitOnceResult, split_after}
 use Rattle.std.specs.Borrow.{Bor}
 use Rattle.std.specs.Char.{is_ascii_alphabetic}
-use Rattle.std.specs.Prelude.{IsTrue, Option, Some, None, MatchOption, ℤ}
+use Rattle.std.specs.Prelude.{Option, Some, None, MatchOption, ℤ}
 use Rattle.az_text.specs.Tokens.{AllAre, IsWord, is_word_byte}
 use Rattle.command_words.specs.Bindings.{IsInteger, IsBinding}
 use Rattle.command_words.specs.declared.binding.Binding.{Binding}

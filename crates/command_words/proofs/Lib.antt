@@ -2,7 +2,10 @@ pub mod BoundWords
 pub mod Cuts
 pub mod Digits
 pub mod Found
+pub mod LineReads
+pub mod LineTurns
 pub mod Lines
 pub mod OneEvaluation
 pub mod OneRequest
 pub mod PlainWords
+pub mod WordClasses

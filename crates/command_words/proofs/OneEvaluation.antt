@@ -1,8 +1,8 @@
 -- Words ask for one evaluation only: each binding can be read in one way.
 use Rattle.std.proofs.Common.{◌≡◌, ℕ, List, [], ◌∷◌, ◌++◌, true, false, refl, sym, ap, subst, ◌∙◌, inl, inr, codes, arith}
 use Rattle.std.specs.List.{AllZip}
-use Rattle.std.specs.Prelude.{ℤ, Some, Option}
-use Rattle.az_text.specs.Tokens.{AllAre, IsWord, IsNumber, is_word_byte}
+use Rattle.std.specs.Prelude.{ℤ, Some}
+use Rattle.az_text.specs.Tokens.{AllAre, IsNumber, is_word_byte}
 use Rattle.command_words.proofs.Cuts.{word_bytes}
 use Rattle.command_words.specs.Bindings.{IsMagnitude, IsInteger, IsBinding}
 use Rattle.command_words.specs.Words.{plain_words}

@@ -1,9 +1,8 @@
 -- The plain words, one after the other.
 use Rattle.std.proofs.Common.{◌≡◌, ℕ, ◌-◌, ◌≤◌, List, [], ◌∷◌, ◌++◌, length, take, drop, get_or, true, false, Bool, codes, refl, sym, ap, ◌∙◌, append-nil, arith}
-use Rattle.std.specs.Prelude.{Option, Some, None, option_map, String, string_bytes}
-use Rattle.std.specs.Str.{bytes_eq}
+use Rattle.std.specs.Prelude.{Option, Some, option_map, String, string_bytes}
 use Rattle.std.specs.declared.alloc.Global.{Global}
-use Rattle.command_words.specs.Words.{texts, is_plain, plain_words}
+use Rattle.command_words.specs.Words.{texts, plain_words}
 
 -- behind a `--` all words are plain
 abbrev pub plain_from : Bool → List (List ℕ) → Option (List (List ℕ))

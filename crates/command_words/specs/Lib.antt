@@ -1,6 +1,6 @@
 pub mod Words
 pub mod Lines
-pub mod Parts
+pub mod Parsing
 pub mod Bindings
 pub mod Evaluations
 pub mod Requests

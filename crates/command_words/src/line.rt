@@ -1,12 +1,16 @@
 //! The words behind a command: the plain ones, and the count of workers.
+//!
+//! The kit's parser of command lines tells them apart. Where it refuses them they are no line, and what it would
+//! print is dropped.
 
 ghost use Rattle.std.specs.Prelude.{◌≡◌, IfOk, option_map};
-ghost use Rattle.command_words.specs.Parts.{IsPart};
-ghost use Rattle.command_words.specs.declared.line.Place.TheVariants.{Open};
-ghost use Rattle.command_words.specs.Lines.{joined_count, line_of, told};
+ghost use Rattle.clap.specs.Words.{app_of, found_of, rows_of};
+ghost use Rattle.command_words.specs.Lines.{line_of, told};
+ghost use Rattle.command_words.specs.Parsing.{has_empty, line_app, line_in};
 ghost use Rattle.command_words.specs.Words.{texts};
 
-use crate::plain::is_plain;
+use clap::error::ErrorKind;
+use clap::{Arg, ArgAction, ArgMatches, Command};
 use std::alloc::{AllocError, Global};
 
 /// The plain words in order, and what `--workers` has, where it stands.
@@ -16,90 +20,61 @@ pub(crate) struct Line<'a> {
     pub workers: Option<&'a str>,
 }
 
-/// What stands before a word.
-#[derive(Clone, Copy)]
-enum Place {
-    Open,
-    /// `--workers`, whose count the word is to be.
-    Waiting,
-    /// A `--`.
-    Behind,
-}
-
-/// What a word is.
-#[derive(Clone, Copy)]
-enum Part<'a> {
-    Plain,
-    Count(&'a str),
-    /// `--workers`, whose count follows.
-    Workers,
-    /// The first `--`.
-    End,
-    /// There is no line.
-    Nothing,
-}
-
-fn joined_count(word: &str) -> Option<&str>
-    ensures { option_map (λ count. count.now) result ≡ joined_count word.now }
+/// Whether an empty word stands before the first `--`, which the parser would take.
+fn has_empty(words: &[String]) -> bool
+    ensures { result ≡ has_empty (texts words.now) }
 {
-    word.strip_prefix("--workers=")
+    for word in words {
+        if word.as_str() == "--" {
+            return false;
+        }
+        if word.is_empty() {
+            return true;
+        }
+    }
+    false
 }
 
-/// What a word is before which no `--` stands, and which is no count.
-fn open_part(word: &str) -> Part<'_>
-    ensures { IsPart Open word.now result }
+/// The command that is parsed. All commands have the same, so that their words are read alike; which of them a
+/// command takes is asked afterwards.
+fn line_command<'a>(alloc: Global) -> Result<Command<'a>, AllocError>
+    ensures { IfOk result (λ command. app_of command ≡ line_app) }
 {
-    if word == "--" {
-        return Part::End;
-    }
-    if is_plain(word) {
-        return Part::Plain;
-    }
-    if word == "--workers" {
-        return Part::Workers;
-    }
-    match joined_count(word) {
-        Some(count) => Part::Count(count),
-        None => Part::Nothing,
-    }
+    let words = Arg::new(alloc, "words").action(ArgAction::Append);
+    let workers = Arg::new(alloc, "workers").long("workers");
+    Command::new(alloc, "line")
+        .no_binary_name(true)
+        .disable_help_flag(true)
+        .arg(words)?
+        .arg(workers)
 }
 
-fn part_of(place: Place, word: &str) -> Part<'_>
-    ensures { IsPart place word.now result }
+/// The line that the parser found.
+fn found_line<'a>(alloc: Global, matches: &ArgMatches<'a>) -> Result<Line<'a>, AllocError>
+    ensures { IfOk result (λ line. told line.plain.items line.workers ≡ line_in (rows_of (found_of matches.now))) }
 {
-    match place {
-        Place::Open => open_part(word),
-        Place::Waiting if is_plain(word) => Part::Count(word),
-        Place::Waiting => Part::Nothing,
-        Place::Behind => Part::Plain,
-    }
+    let words = matches.get_strs("words").unwrap_or(&[]);
+    Ok(Line {
+        plain: Vec::from_slice(alloc, words)?,
+        workers: matches.get_str("workers"),
+    })
 }
 
 /// The line of the words, or `None` where they are none.
 pub(crate) fn line_of(alloc: Global, words: &[String]) -> Result<Option<Line<'_>>, AllocError>
     ensures { IfOk result (λ found. option_map (λ line. told line.plain.items line.workers) found ≡ line_of (texts words.now)) }
 {
-    let mut plain = Vec::with_capacity(alloc, words.len())?;
-    let mut workers = None;
-    let mut place = Place::Open;
-    for word in words {
-        let word = word.as_str();
-        match part_of(place, word) {
-            Part::Plain => plain.push(word)?,
-            Part::Count(count) => {
-                if workers.is_some() {
-                    return Ok(None);
-                }
-                workers = Some(count);
-                place = Place::Open;
-            }
-            Part::Workers => place = Place::Waiting,
-            Part::End => place = Place::Behind,
-            Part::Nothing => return Ok(None),
-        }
+    if has_empty(words) {
+        return Ok(None);
     }
-    match place {
-        Place::Waiting => Ok(None),
-        Place::Open | Place::Behind => Ok(Some(Line { plain, workers })),
+    match line_command(alloc)?.try_get_matches_from(words) {
+        Ok(matches) => Ok(Some(found_line(alloc, &matches)?)),
+        Err(error) => {
+            if error.kind() == ErrorKind::OutOfMemory {
+                Err(AllocError)
+            } else {
+                Ok(None)
+            }
+        }
     }
 }

@@ -1,4 +1,4 @@
-use Rattle.std.proofs.Common.{◌≡◌, rules, refl, true, false, arith, FitsSigned, to_z, of_z}
+use Rattle.std.proofs.Common.{◌≡◌, rules, refl, true, false, arith, FitsSigned}
 use Rattle.std.specs.Int.{w128}
 use Rattle.std.specs.Prelude.{Some, None}
 use Rattle.std.proofs.lemmas.Int.{to_z-of_z}

@@ -1,4 +1,4 @@
-use Rattle.std.proofs.Common.{◌≡◌, rules, refl, true, false, [], arith}
+use Rattle.std.proofs.Common.{◌≡◌, rules, true, false, [], arith}
 use Rattle.std.specs.Prelude.{Some, None}
 use Rattle.std.proofs.lemmas.Bool.Decides.{nat_tests}
 use Rattle.command_words.proofs.Cuts.{no_table, no_bytes}

@@ -1,6 +1,6 @@
-use Rattle.std.proofs.Common.{◌≡◌, List, ℕ, sym, ap, ◌∙◌, subst}
+use Rattle.std.proofs.Common.{◌≡◌, List, ℕ, sym, ap, ◌∙◌}
 use Rattle.std.specs.Borrow.{Bor}
-use Rattle.std.specs.Prelude.{map, Some, option_map}
+use Rattle.std.specs.Prelude.{Some}
 use Rattle.command_words.proofs.BoundWords.{none_also, told}
 use Rattle.command_words.proofs.OneEvaluation.{has_plain}
 use Rattle.command_words.specs.Words.{texts, plain_words}

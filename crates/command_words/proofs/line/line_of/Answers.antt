@@ -1,39 +1,33 @@
-use Rattle.std.proofs.Common.{arith, rules, length-drop, refl}
+use Rattle.std.proofs.Common.{◌≡◌, ◌∙◌, rules, sym, ap, subst, ⊎_elim, true, false, [], Some}
+use Rattle.clap.specs.Words.{IsAmong, fault_of, found_of, is_simple, is_simple_and_free, kind_of, matches_of, rows_of}
+use Rattle.clap.specs.declared.error.kind.ErrorKind.TheVariants.{OutOfMemory}
+use Rattle.command_words.specs.Parsing.{has_empty, line_app, line_in}
 use Rattle.command_words.specs.Words.{texts}
-use Rattle.command_words.specs.Lines.{line_of}
-use Rattle.command_words.proofs.Lines.{after_plain, after_count, by_part, counted_twice, finished}
-use Rattle.command_words.specs.declared.line.Part.TheVariants.{Workers, End}
+use Rattle.command_words.proofs.LineReads.{found, not_found, no_line}
 use Rattle.command_words.proofs.line.line_of.Goals as goal
-use Rattle.command_words.proofs.line.line_of.Goals.{in-Plain+in_ok-push-in-Plain, in-Count+else-is_some, in-Workers, in-End}
 
-pub returns-then-is_some : goal.returns-then-is_some
-returns-then-is_some c =
-    counted_twice c.args.words.now c.loop-word.word-index c.word-item.result c.loop-word-test.true c.word-item.is c.as_str-word.result.now c.as_str-word.ensures.value
-    (line_of (texts c.args.words.now)) c.loop-word.plain.items c.loop-word.workers c.loop-word.place c.loop-word.invariant c.in-Count.count (search rules) c.in-Count.ensures
+pub returns-then-has_empty : goal.returns-then-has_empty
+returns-then-has_empty c =
+    let some : has_empty (texts c.args.words.now) ≡ true = search rules in
+    no_line (texts c.args.words.now) some
 
-pub loop-word-preserved : goal.loop-word-preserved
-loop-word-preserved c =
-    let whole = line_of (texts c.args.words.now) in
-    let word = c.as_str-word.result.now in
-    elim c.match-part_of.branch [
-      | in-Plain+in_ok-push-in-Plain w ↦
-          rw (w.plain-is, w.workers-is, w.place-is, w.in_ok-push-in-Plain.ensures.items)
-          (after_plain c.args.words.now c.loop-word.word-index c.word-item.result c.loop-word-test.true c.word-item.is word c.as_str-word.ensures.value
-          whole c.loop-word.plain.items c.loop-word.workers c.loop-word.place c.loop-word.invariant _ refl w.in-Plain.ensures)
-      | in-Count+else-is_some w ↦
-          rw (w.plain-is, w.workers-is, w.place-is)
-          (after_count c.args.words.now c.loop-word.word-index c.word-item.result c.loop-word-test.true c.word-item.is word c.as_str-word.ensures.value
-          whole c.loop-word.plain.items c.loop-word.workers c.loop-word.place c.loop-word.invariant w.in-Count.count (search rules) w.in-Count.ensures)
-      | in-Workers w ↦
-          rw (w.plain-is, w.workers-is, w.place-is)
-          (by_part c.args.words.now c.loop-word.word-index c.word-item.result c.loop-word-test.true c.word-item.is word c.as_str-word.ensures.value
-          whole c.loop-word.plain.items c.loop-word.workers c.loop-word.place c.loop-word.invariant Workers w.in-Workers.ensures)
-      | in-End w ↦
-          rw (w.plain-is, w.workers-is, w.place-is)
-          (by_part c.args.words.now c.loop-word.word-index c.word-item.result c.loop-word-test.true c.word-item.is word c.as_str-word.ensures.value
-          whole c.loop-word.plain.items c.loop-word.workers c.loop-word.place c.loop-word.invariant End w.in-End.ensures)
-    ]
+pub returns-in-Ok : goal.returns-in-Ok
+returns-in-Ok c =
+    let words = texts c.args.words.now in
+    let none : has_empty words ≡ false = search rules in
+    let app = c.in_ok-line_command.ensures in
+    let passes : fault_of line_app words ≡ [] = sym (ap (λ a. fault_of a words) app) ∙ c.in-Ok.ensures.kinds (ap is_simple_and_free app) in
+    let rows : rows_of (found_of c.in-Ok.matches) ≡ matches_of line_app words = (c.in-Ok.ensures.matches (ap is_simple app)).0 ∙ ap (λ a. matches_of a words) app in
+    ap Some (c.in_ok-found_line-in-Ok.ensures ∙ ap line_in rows) ∙ found c.args.words.now none passes
 
 pub returns : goal.returns
 returns c =
-    finished c.loop-word.plain.items c.loop-word.workers (line_of (texts c.args.words.now)) c.loop-word.place _ c.in-Open.is (omega (arith, length-drop c.loop-word.word-index c.args.words.now)) c.loop-word.invariant
+    let words = texts c.args.words.now in
+    let none : has_empty words ≡ false = search rules in
+    let app = c.in_ok-line_command.ensures in
+    let memory : kind_of c.in-Err.error ≡ OutOfMemory → ⊥ = λ is.
+    let same = rw (c.kind.ensures ∙ is) at c.eq.ensures in
+    let bad : false ≡ true = sym c.if-eq.false ∙ same in
+    cc in
+    ⊎_elim (λ is. absurd (memory is)) (λ among. not_found c.args.words.now none (kind_of c.in-Err.error) (subst (λ a. IsAmong (kind_of c.in-Err.error) (fault_of a words)) app among))
+    (c.in-Err.ensures.kinds (ap is_simple_and_free app))

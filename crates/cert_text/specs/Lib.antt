@@ -1,0 +1,3 @@
+pub mod Versions
+pub mod Lines
+pub mod Answers

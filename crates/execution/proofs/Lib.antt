@@ -1,0 +1,15 @@
+pub mod Lists
+pub mod Places
+pub mod Quiet
+pub mod Workers
+pub mod Claims
+pub mod LoadSteps
+pub mod StoreSteps
+pub mod Waves
+pub mod Ends
+pub mod Enabled
+pub mod Kept
+pub mod Measure
+pub mod Turns
+pub mod LawProofs
+pub mod Examples

@@ -1,0 +1,10 @@
+pub mod Bodies
+pub mod Plans
+pub mod States
+pub mod Events
+pub mod Sound
+pub mod Good
+pub mod Progress
+pub mod Setting
+pub mod Laws
+pub mod Examples

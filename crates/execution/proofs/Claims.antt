@@ -2,8 +2,8 @@
 use Rattle.std.proofs.Common.{◌≡◌, ◌⊎◌, inl, inr, ⊎_elim, ℕ, suc, ◌+◌, ◌<◌, ◌≤◌, Bool, true, false, nat_lt, if◌then◌else◌, List, [], length, set, slice_get, Some, refl, sym, ap, subst, ◌∙◌, arith, ltb-true, ltb-false}
 use Rattle.std.specs.Prelude.{ℤ}
 use Rattle.execution.specs.Events.{claimed}
-use Rattle.execution.specs.Good.{is_exhausted, exhausted_count, IsKept, IsGood}
-use Rattle.execution.specs.Plans.{Work, Plan, tiles_of, works_of, place, Stands}
+use Rattle.execution.specs.Good.{exhausted_count, IsKept, IsGood}
+use Rattle.execution.specs.Plans.{Plan, tiles_of, works_of}
 use Rattle.execution.specs.Sound.{IsSound, AreFound}
 use Rattle.execution.specs.States.{Worker, resting, exhausted, working, State, is_finished, Works}
 use Rattle.execution.specs.declared.instance.Instance.{Instance}
@@ -43,8 +43,10 @@ module _ (means : Instance → ℤ → Type 0) (before : Instance → Instance �
         where
           is_tile : working tile number values ≡ new → tile ≡ s.counter
           is_tile e = cc
+
           is_number : working tile number values ≡ new → number ≡ 0
           is_number e = cc
+
           is_values : working tile number values ≡ new → values ≡ []
           is_values e = cc
 
@@ -86,6 +88,7 @@ module _ (means : Instance → ℤ → Type 0) (before : Instance → Instance �
             where
               less_or_same : (a b : ℕ) → a ≤ b → (a < b) ⊎ (a ≡ b)
               less_or_same a b l = ⊎_elim (λ h. inl h) (λ h. inr (omega (arith, h, l))) (within_or_past a b)
+
               by : (tile < s.counter) ⊎ (tile ≡ s.counter) → (j : ℕ) × (number : ℕ) × (values : List ℤ) × Works t j tile number values
               by (inl l) = let one = kept.owned tile l within is in (one.0, one.1, one.2, still one.0 tile one.1 one.2 one.3)
               by (inr same) = (k, 0, [], subst (λ n. Works t k n 0 []) (sym same) (set_same s.workers k new resting rests))

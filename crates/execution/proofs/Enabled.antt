@@ -1,9 +1,8 @@
 -- What an event leaves, where the premises are known of one worker alone.
-use Rattle.std.proofs.Common.{◌≡◌, ◌⊎◌, ⊎_elim, ℕ, zero, suc, ◌<◌, Bool, true, false, ◌&&◌, nat_lt, nat_eq, if◌then◌else◌, List, [], ◌∷◌, ◌++◌, length, slice_get, Option, Some, None, refl, sym, ap, subst, ◌∙◌, arith, lt-ltb, eq-eqb, ltb-true, eqb-true}
+use Rattle.std.proofs.Common.{◌≡◌, ℕ, zero, suc, ◌<◌, Bool, true, false, ◌&&◌, nat_lt, if◌then◌else◌, List, [], ◌∷◌, ◌++◌, length, slice_get, Option, Some, None, refl, sym, ap, subst, ◌∙◌, arith, lt-ltb, eq-eqb, ltb-true, eqb-true}
 use Rattle.std.specs.Prelude.{ℤ, option_map}
 use Rattle.std.specs.Option.{option_map_or}
-use Rattle.std.proofs.lemmas.Option.{slice_get_cases}
-use Rattle.execution.specs.Events.{Current, current_of, current, is_resting, has_load, has_all_loads, is_enabled, claimed, cell_of_load, loaded, stored, next_wave, effect, after, after_all}
+use Rattle.execution.specs.Events.{Current, current_of, current, is_resting, has_load, has_all_loads, is_enabled, loaded, stored, effect, after, after_all}
 use Rattle.execution.specs.Good.{IsGood}
 use Rattle.execution.specs.Plans.{Load, Work, Plan, works_of, place, Stands}
 use Rattle.execution.specs.Sound.{IsSound}
@@ -139,7 +138,7 @@ module _ (means : Instance → ℤ → Type 0) (before : Instance → Instance �
     load_keeps less =
         let one = load_there w (length values) less in
         subst Good (sym (after-load plan s k tile number values works w stands one.0 one.1 less))
-            (load_good means before output plan sound s good k tile number values works w stands one.0 one.1)
+        (load_good means before output plan sound s good k tile number values works w stands one.0 one.1)
 
     pub store_keeps : length values ≡ length w.loads → Good (after plan (event.Store k) s)
     store_keeps all = subst Good (sym (after-store plan s k tile number values works w stands all)) (store_good means before output plan sound s good k tile number values works w stands all)

@@ -1,14 +1,14 @@
 -- The start is good, and an ended state has the meaning of each output.
-use Rattle.std.proofs.Common.{◌≡◌, ◌⊎◌, inl, inr, ⊎_elim, ℕ, zero, suc, ◌+◌, ◌<◌, ◌≤◌, Bool, true, false, ◌&&◌, nat_le, List, [], length, get_or, replicate, slice_get, Some, refl, sym, ap, subst, ◌∙◌, arith, leb-true}
+use Rattle.std.proofs.Common.{◌≡◌, ◌⊎◌, inl, inr, ⊎_elim, ℕ, zero, suc, ◌<◌, ◌≤◌, Bool, true, false, ◌&&◌, nat_le, List, [], length, get_or, replicate, slice_get, Some, refl, ap, arith, leb-true}
 use Rattle.std.specs.Prelude.{ℤ, pos}
 use Rattle.std.proofs.lemmas.List.{length-replicate, get_or_past}
 use Rattle.execution.specs.Good.{IsKept, IsGood}
-use Rattle.execution.specs.Plans.{Work, Plan, tiles_of, works_of, place, Stands}
+use Rattle.execution.specs.Plans.{Work, Plan, tiles_of, Stands}
 use Rattle.execution.specs.Sound.{IsSound}
-use Rattle.execution.specs.States.{Worker, resting, exhausted, working, State, word, is_finished, Works, IsStored, in_earlier_wave, in_finished_tile, behind_worker, start, all_true, has_ended}
+use Rattle.execution.specs.States.{resting, exhausted, working, State, is_finished, Works, IsStored, in_earlier_wave, in_finished_tile, behind_worker, start, all_true, has_ended}
 use Rattle.execution.specs.declared.instance.Instance.{Instance}
 use Rattle.execution.specs.declared.place.Place.{Place}
-use Rattle.execution.proofs.Lists.{all_true-at, none_flagged, start_rest, within_or_past, listed_within}
+use Rattle.execution.proofs.Lists.{all_true-at, none_flagged, start_rest, within_or_past}
 use Rattle.execution.proofs.Places.{stands_in_tile, passed, reached}
 
 no_words : (n cell : ℕ) → get_or (replicate n (pos 0)) cell (pos 0) ≡ pos 0

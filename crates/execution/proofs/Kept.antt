@@ -1,9 +1,9 @@
 -- A worker that stays in its tile takes nothing from the others.
-use Rattle.std.proofs.Common.{◌≡◌, ◌⊎◌, inl, inr, ⊎_elim, ℕ, ◌+◌, ◌<◌, ◌≤◌, List, length, set, slice_get, Some, refl, sym, ap, subst, ◌∙◌, arith}
+use Rattle.std.proofs.Common.{◌≡◌, ⊎_elim, ℕ, ◌<◌, List, length, set, slice_get, Some, sym, ap, subst, ◌∙◌, arith}
 use Rattle.std.specs.Prelude.{ℤ}
-use Rattle.execution.specs.Good.{exhausted_count, IsKept}
-use Rattle.execution.specs.Plans.{Plan, tiles_of, works_of}
-use Rattle.execution.specs.States.{Worker, exhausted, working, State, is_finished, Works}
+use Rattle.execution.specs.Good.{IsKept}
+use Rattle.execution.specs.Plans.{Plan, works_of}
+use Rattle.execution.specs.States.{Worker, exhausted, working, State, Works}
 use Rattle.execution.proofs.Lists.{same_or_other, set_same, kept_other, changed, exhausted-set}
 
 module _
@@ -28,6 +28,7 @@ module _
     where
       tile_is : working other n vs ≡ new → other ≡ tile
       tile_is e = cc
+
       moved : j ≡ k → other ≡ tile → Works s j other number values
       moved same e = ap (slice_get s.workers) same ∙ (works ∙ ap (λ o. Some (working o number values)) (sym e))
 
@@ -37,6 +38,7 @@ module _
     where
       tile_is : j ≡ k → other ≡ tile
       tile_is same = let here : slice_get s.workers j ≡ Some (working tile number values) = ap (slice_get s.workers) same ∙ works in cc
+
       moved : j ≡ k → other ≡ tile → Works t j other next more
       moved same e = ap (slice_get t.workers) same ∙ (set_same s.workers k new (working tile number values) works ∙ ap (λ o. Some (working o next more)) (sym e))
 

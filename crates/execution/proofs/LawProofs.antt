@@ -1,6 +1,6 @@
 -- The laws, at the meaning and the order of a program with a mapping.
 use Rattle.execution.specs.Laws.{StartIsGood, ClaimKeepsGood, LoadKeepsGood, LoadFindsTheMeaning, StoreKeepsGood, NextKeepsGood, EventKeepsGood, EndedHasOutputs, EnabledEventsFall, SomeTurnIsEnabled, EveryRunIsGood}
-use Rattle.execution.specs.Setting.{Setting, InstanceMeans, InstanceBefore, IsOutputInstance}
+use Rattle.execution.specs.Setting.{InstanceMeans, InstanceBefore, IsOutputInstance}
 use Rattle.execution.specs.States.{start}
 use Rattle.execution.proofs.Enabled as enabled
 use Rattle.execution.proofs.Ends.{start_good, all_stored}

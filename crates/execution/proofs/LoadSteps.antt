@@ -1,11 +1,11 @@
 -- A load finds the meaning of the instance that it names, and keeps a good state good.
-use Rattle.std.proofs.Common.{◌≡◌, ◌⊎◌, inl, inr, ⊎_elim, ℕ, ◌+◌, ◌<◌, ◌≤◌, List, [], ◌∷◌, ◌++◌, length, set, slice_get, Some, refl, sym, ap, subst, ◌∙◌, arith, length-append}
+use Rattle.std.proofs.Common.{◌≡◌, inr, ⊎_elim, ℕ, ◌≤◌, List, [], ◌∷◌, ◌++◌, length, slice_get, Some, refl, sym, ap, subst, ◌∙◌, arith}
 use Rattle.std.specs.Prelude.{ℤ}
 use Rattle.std.proofs.lemmas.List.{length_push}
 use Rattle.execution.specs.Good.{IsGood, IsToMake}
 use Rattle.execution.specs.Plans.{Load, Work, Plan, works_of, place, Stands}
 use Rattle.execution.specs.Sound.{IsSound, AreFound}
-use Rattle.execution.specs.States.{Worker, working, State, word, Works, IsStored}
+use Rattle.execution.specs.States.{Worker, working, State, word, Works}
 use Rattle.execution.specs.declared.instance.Instance.{Instance}
 use Rattle.execution.proofs.Kept.{same_tile_kept}
 use Rattle.execution.proofs.Lists.{changed, found-push}
@@ -47,8 +47,10 @@ module _
     where
       was : (t n : ℕ) (vs : List ℤ) → new ≡ working t n vs → working tile number values ≡ working t n values
       was t n vs is = let one : tile ≡ t = cc in let two : number ≡ n = cc in λ i. working (one i) (two i) values
+
       longer : (t n : ℕ) (vs : List ℤ) → working tile number values ≡ working t n vs → length vs ≤ length (values ++ word s load.cell ∷ [])
       longer t n vs is = let one : values ≡ vs = cc in let len = length_push values (word s load.cell) in omega (arith, ap length one, len)
+
       same : (t n : ℕ) (vs : List ℤ) → working tile number values ≡ working t n vs → new ≡ working t n (values ++ word s load.cell ∷ [])
       same t n vs is = let one : tile ≡ t = cc in let two : number ≡ n = cc in λ i. working (one i) (two i) (values ++ word s load.cell ∷ [])
 

@@ -1,9 +1,9 @@
 -- Each enabled event leaves less to do.
-use Rattle.std.proofs.Common.{◌≡◌, ◌⊎◌, ⊎_elim, ℕ, zero, suc, ◌+◌, ◌-◌, ◌<◌, ◌≤◌, Bool, true, false, nat_lt, if◌then◌else◌, List, [], ◌∷◌, ◌++◌, length, get_or, set, map, drop, slice_get, Some, None, refl, sym, ap, subst, ◌∙◌, arith, length-set, ltb-true, ltb-false}
+use Rattle.std.proofs.Common.{◌≡◌, ℕ, zero, suc, ◌+◌, ◌<◌, ◌≤◌, Bool, true, false, nat_lt, if◌then◌else◌, List, [], ◌∷◌, ◌++◌, length, get_or, set, map, drop, slice_get, Some, None, refl, sym, ap, subst, arith, length-set, ltb-true}
 use Rattle.std.specs.Prelude.{ℤ}
 use Rattle.std.proofs.lemmas.List.{length_push}
-use Rattle.execution.specs.Events.{claimed, stored, next_wave, effect, is_enabled, after}
-use Rattle.execution.specs.Plans.{Load, Work, Plan, tiles_of, works_of, place, Stands, value_of}
+use Rattle.execution.specs.Events.{claimed, stored, next_wave, is_enabled, after}
+use Rattle.execution.specs.Plans.{Work, Plan, tiles_of, works_of, place, Stands, value_of}
 use Rattle.execution.specs.Progress.{works_left, tiles_left, waves_left, worker_left, workers_left, work_left}
 use Rattle.execution.specs.States.{Worker, resting, exhausted, working, State, word, Works}
 use Rattle.execution.specs.declared.event.Event.{Event}
@@ -61,7 +61,7 @@ module _ (plan : Plan) (s : State) where
   same_wave cells finished counter k old new at less =
       let moved = workers-set plan s.wave s.workers k old new at in
       let later : waves_left (length (set s.workers k new)) (drop (suc s.wave) plan.waves) ≡ waves_left (length s.workers) (drop (suc s.wave) plan.waves)
-          = ap (λ n. waves_left n (drop (suc s.wave) plan.waves)) (length-set s.workers k new) in
+      = ap (λ n. waves_left n (drop (suc s.wave) plan.waves)) (length-set s.workers k new) in
       omega (arith, moved, later, less)
 
   claim_falls : (k : ℕ) → slice_get s.workers k ≡ Some resting → work_left plan (claimed plan k s) < work_left plan s
@@ -98,7 +98,7 @@ module _ (plan : Plan) (s : State) where
       let count = map-length s.workers in
       let rest = rest-left plan (suc s.wave) s.workers in
       let same : waves_left (length (map (λ w. resting) s.workers)) (drop (suc (suc s.wave)) plan.waves) ≡ waves_left (length s.workers) (drop (suc (suc s.wave)) plan.waves)
-          = ap (λ n. waves_left n (drop (suc (suc s.wave)) plan.waves)) count in
+      = ap (λ n. waves_left n (drop (suc (suc s.wave)) plan.waves)) count in
       omega (arith, later, rest, same)
 
   pub event_falls : (e : Event) → is_enabled plan e s ≡ true → work_left plan (after plan e s) < work_left plan s
@@ -107,13 +107,13 @@ module _ (plan : Plan) (s : State) where
       let one = load_at plan s k is in
       let load = load_there one.0.work (length one.0.values) one.2 in
       subst (λ t. work_left plan t < work_left plan s)
-          (sym (after-load plan s k one.0.tile one.0.number one.0.values one.1.works one.0.work one.1.stands load.0 load.1 one.2))
-          (load_falls k one.0.tile one.0.number one.0.values one.1.works one.0.work one.1.stands (word s load.0.cell) one.2)
+      (sym (after-load plan s k one.0.tile one.0.number one.0.values one.1.works one.0.work one.1.stands load.0 load.1 one.2))
+      (load_falls k one.0.tile one.0.number one.0.values one.1.works one.0.work one.1.stands (word s load.0.cell) one.2)
   event_falls (event.Store k) is =
       let one = store_at plan s k is in
       subst (λ t. work_left plan t < work_left plan s)
-          (sym (after-store plan s k one.0.tile one.0.number one.0.values one.1.works one.0.work one.1.stands one.2))
-          (store_falls k one.0.tile one.0.number one.0.values one.1.works one.0.work one.1.stands one.2)
+      (sym (after-store plan s k one.0.tile one.0.number one.0.values one.1.works one.0.work one.1.stands one.2))
+      (store_falls k one.0.tile one.0.number one.0.values one.1.works one.0.work one.1.stands one.2)
   event_falls event.Next is =
       let one = next_ready plan s is in
       subst (λ t. work_left plan t < work_left plan s) (sym (after-enabled plan s event.Next is)) (next_falls one.1)

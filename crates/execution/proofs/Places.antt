@@ -1,10 +1,10 @@
 -- What is before a stored instance is stored, whatever the state.
-use Rattle.std.proofs.Common.{◌≡◌, ◌⊎◌, ⊎_elim, ℕ, ◌<◌, true, false, List, length, slice_get, Some, refl, sym, subst, ◌∙◌, arith}
+use Rattle.std.proofs.Common.{◌≡◌, ⊎_elim, ℕ, ◌<◌, true, List, length, sym, subst, ◌∙◌, arith}
 use Rattle.std.specs.Prelude.{ℤ}
 use Rattle.execution.specs.Good.{IsKept}
-use Rattle.execution.specs.Plans.{Work, Plan, tiles_of, works_of, place, Stands, IsEarlier}
+use Rattle.execution.specs.Plans.{Work, Plan, tiles_of, place, Stands, IsEarlier}
 use Rattle.execution.specs.Sound.{IsSound}
-use Rattle.execution.specs.States.{State, working, is_finished, Works, IsStored, in_earlier_wave, in_finished_tile, behind_worker}
+use Rattle.execution.specs.States.{State, is_finished, Works, IsStored, in_earlier_wave, in_finished_tile, behind_worker}
 use Rattle.execution.specs.declared.instance.Instance.{Instance}
 use Rattle.execution.specs.declared.place.Place.{Place}
 use Rattle.execution.proofs.Lists.{listed_within}

@@ -1,5 +1,5 @@
 -- Events that store nothing: the words stay, and so do the stored instances.
-use Rattle.std.proofs.Common.{◌≡◌, ◌⊎◌, inl, inr, ⊎_elim, ℕ, ◌<◌, List, get_or, slice_get, Some, sym, ap, subst, ◌∙◌}
+use Rattle.std.proofs.Common.{◌≡◌, inl, inr, ⊎_elim, ℕ, List, get_or, sym, ap, subst, ◌∙◌}
 use Rattle.std.specs.Prelude.{ℤ, pos}
 use Rattle.execution.specs.Good.{IsKept, IsToMake, IsBlank, HoldsSome, IsGood}
 use Rattle.execution.specs.Plans.{Work, Plan, place, Stands}

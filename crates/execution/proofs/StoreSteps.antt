@@ -1,10 +1,10 @@
 -- A store keeps a good state good: the cell that it takes is wanted by nobody any more.
-use Rattle.std.proofs.Common.{◌≡◌, ◌⊎◌, inl, inr, ⊎_elim, ℕ, suc, ◌+◌, ◌<◌, ◌≤◌, Bool, true, false, nat_lt, if◌then◌else◌, List, [], length, get_or, set, slice_get, Some, refl, sym, ap, subst, ◌∙◌, arith, get_or-set_same, get_or-set_other, length-set, ltb-true, ltb-false}
+use Rattle.std.proofs.Common.{◌≡◌, ◌⊎◌, inl, inr, ⊎_elim, ℕ, suc, ◌<◌, ◌≤◌, Bool, true, false, nat_lt, if◌then◌else◌, List, [], length, set, slice_get, Some, refl, sym, ap, subst, ◌∙◌, arith, get_or-set_same, get_or-set_other, length-set, ltb-true, ltb-false}
 use Rattle.std.specs.Prelude.{ℤ, pos}
 use Rattle.std.proofs.lemmas.List.{get_or_past}
 use Rattle.std.proofs.lemmas.Option.{slice_get_within}
-use Rattle.execution.specs.Events.{Current, stored}
-use Rattle.execution.specs.Good.{exhausted_count, IsKept, IsToMake, IsBlank, HoldsSome, IsGood}
+use Rattle.execution.specs.Events.{stored}
+use Rattle.execution.specs.Good.{IsKept, IsToMake, IsBlank, HoldsSome, IsGood}
 use Rattle.execution.specs.Plans.{Load, Work, Plan, tiles_of, works_of, place, Stands, value_of}
 use Rattle.execution.specs.Sound.{IsSound, AreFound}
 use Rattle.execution.specs.States.{Worker, resting, exhausted, working, State, word, is_finished, Works, IsStored, in_earlier_wave, in_finished_tile, behind_worker}
@@ -12,7 +12,7 @@ use Rattle.execution.specs.declared.instance.Instance.{Instance}
 use Rattle.execution.specs.declared.place.Place.{Place}
 use Rattle.execution.proofs.Kept.{same_tile_kept}
 use Rattle.execution.proofs.Lists.{same_or_other, within_or_past, set_same, kept_other, changed, flag_set, flag_kept, flag_lacks, exhausted-set}
-use Rattle.execution.proofs.Places.{same_place, stands_in_tile, not_stored, passed, reached}
+use Rattle.execution.proofs.Places.{same_place, not_stored, passed, reached}
 use Rattle.execution.proofs.Quiet.{HasValues}
 
 -- the state with a word, flags and workers of its own
@@ -314,10 +314,10 @@ module _
       by true is =
           let more = ltb-true (suc number) (length (works_of plan s.wave tile)) is in
           store_keeps means before output plan sound s good k tile number values works w stands all s.finished (set s.workers k (working tile (suc number) []))
-              (on_store plan s good.kept k tile number values works w.cell (value_of w values) more)
-              (on_kept plan s good.kept k tile number values works w.cell (value_of w values) more)
+          (on_store plan s good.kept k tile number values works w.cell (value_of w values) more)
+          (on_kept plan s good.kept k tile number values works w.cell (value_of w values) more)
       by false is =
           let last = ltb-false (suc number) (length (works_of plan s.wave tile)) is in
           store_keeps means before output plan sound s good k tile number values works w stands all (set s.finished tile true) (set s.workers k resting)
-              (end_store plan s good.kept k tile number values works w.cell (value_of w values) last)
-              (end_kept plan s good.kept k tile number values works w.cell (value_of w values) last)
+          (end_store plan s good.kept k tile number values works w.cell (value_of w values) last)
+          (end_kept plan s good.kept k tile number values works w.cell (value_of w values) last)

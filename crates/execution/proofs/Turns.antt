@@ -1,10 +1,10 @@
 -- In a good state that hasn't ended somebody can go on.
-use Rattle.std.proofs.Common.{◌≡◌, ◌⊎◌, inl, inr, ⊎_elim, ℕ, zero, suc, ◌<◌, ◌≤◌, Bool, true, false, ◌&&◌, nat_le, List, [], ◌∷◌, length, get_or, slice_get, Some, None, refl, sym, ap, subst, ◌∙◌, arith, le-leb}
+use Rattle.std.proofs.Common.{◌≡◌, ◌⊎◌, inl, inr, ⊎_elim, ℕ, zero, suc, ◌<◌, ◌≤◌, true, false, ◌&&◌, List, [], ◌∷◌, length, get_or, slice_get, Some, None, refl, ap, ◌∙◌, arith, le-leb}
 use Rattle.std.specs.Prelude.{ℤ}
 use Rattle.std.proofs.lemmas.Option.{slice_get_within}
 use Rattle.execution.specs.Events.{is_enabled}
 use Rattle.execution.specs.Good.{IsGood}
-use Rattle.execution.specs.Plans.{Load, Work, Plan, tiles_of, works_of, place, Stands}
+use Rattle.execution.specs.Plans.{Load, Work, Plan, tiles_of, works_of}
 use Rattle.execution.specs.Progress.{IsAmong}
 use Rattle.execution.specs.Sound.{AreFound}
 use Rattle.execution.specs.States.{Worker, resting, exhausted, working, State, Works, all_true, has_ended}

@@ -1,12 +1,12 @@
 -- The next wave keeps a good state good.
-use Rattle.std.proofs.Common.{◌≡◌, ◌⊎◌, inl, inr, ⊎_elim, ℕ, suc, ◌+◌, ◌<◌, ◌≤◌, true, false, List, length, get_or, map, replicate, slice_get, Some, refl, sym, ap, subst, ◌∙◌, arith}
+use Rattle.std.proofs.Common.{◌≡◌, inr, ⊎_elim, ℕ, suc, ◌<◌, true, false, List, length, slice_get, Some, refl, ap, arith}
 use Rattle.std.specs.Prelude.{ℤ}
 use Rattle.std.proofs.lemmas.List.{length-replicate}
 use Rattle.execution.specs.Events.{next_wave}
-use Rattle.execution.specs.Good.{exhausted_count, IsKept, IsToMake, IsGood}
-use Rattle.execution.specs.Plans.{Work, Plan, tiles_of, works_of, place, Stands}
+use Rattle.execution.specs.Good.{IsKept, IsGood}
+use Rattle.execution.specs.Plans.{Work, Plan, tiles_of, Stands}
 use Rattle.execution.specs.Sound.{IsSound}
-use Rattle.execution.specs.States.{Worker, resting, exhausted, working, State, is_finished, Works, IsStored, in_earlier_wave, in_finished_tile, behind_worker, all_true}
+use Rattle.execution.specs.States.{resting, exhausted, working, State, is_finished, Works, IsStored, in_earlier_wave, in_finished_tile, behind_worker, all_true}
 use Rattle.execution.specs.declared.instance.Instance.{Instance}
 use Rattle.execution.specs.declared.place.Place.{Place}
 use Rattle.execution.proofs.Lists.{all_true-at, none_flagged, all_rest, within_or_past}
@@ -73,4 +73,4 @@ module _ (means : Instance → ℤ → Type 0) (before : Instance → Instance �
   pub next_good : (s : State) → IsGood means before output plan s → all_true s.finished ≡ true → suc s.wave < length plan.waves → IsGood means before output plan (next_wave plan s)
   next_good s good done more =
       quiet_keeps means before output plan sound s (next_wave plan s) (next_quiet plan s good.kept done) good (next_kept plan s good.kept done more)
-          (λ k tile number values h w sw. absurd (next_nobody plan s good.kept done k tile number values h))
+      (λ k tile number values h w sw. absurd (next_nobody plan s good.kept done k tile number values h))

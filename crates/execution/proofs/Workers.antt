@@ -1,8 +1,8 @@
 -- A worker changes, and no word does.
-use Rattle.std.proofs.Common.{◌≡◌, ◌⊎◌, inl, inr, ⊎_elim, ℕ, ◌≤◌, List, length, set, slice_get, Some, refl, sym, ap, ◌∙◌, arith}
+use Rattle.std.proofs.Common.{◌≡◌, ◌⊎◌, ⊎_elim, ℕ, ◌≤◌, List, length, set, slice_get, Some, refl, sym, ap, ◌∙◌, arith}
 use Rattle.std.specs.Prelude.{ℤ}
 use Rattle.execution.specs.Good.{IsToMake}
-use Rattle.execution.specs.Plans.{Work, Plan, Stands}
+use Rattle.execution.specs.Plans.{Plan}
 use Rattle.execution.specs.States.{Worker, working, State, Works, IsStored, in_earlier_wave, in_finished_tile, behind_worker}
 use Rattle.execution.specs.declared.place.Place.{Place}
 use Rattle.execution.proofs.Lists.{same_or_other, set_same, kept_other, changed}

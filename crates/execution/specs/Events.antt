@@ -3,7 +3,7 @@
 -- A worker without a tile claims the next one, or finds that there is none left; a worker with a tile loads what
 -- its instance needs, one word after the other, and then stores its value; and when all tiles of a wave are
 -- finished the next wave begins.
-use Rattle.std.specs.Prelude.{◌≡◌, ℕ, suc, nat_eq, nat_lt, Bool, true, false, ◌&&◌, if◌then◌else◌, ℤ, List, [], ◌∷◌, ◌++◌, length, set, replicate, map, slice_get, Option, Some, None, option_map}
+use Rattle.std.specs.Prelude.{ℕ, suc, nat_eq, nat_lt, Bool, true, false, ◌&&◌, if◌then◌else◌, ℤ, List, [], ◌∷◌, ◌++◌, length, set, replicate, map, slice_get, Option, Some, None, option_map}
 use Rattle.std.specs.Option.{option_map_or}
 use Rattle.execution.specs.Plans.{Plan, Work, tiles_of, works_of, value_of}
 use Rattle.execution.specs.States.{Worker, resting, exhausted, working, State, word, all_true}

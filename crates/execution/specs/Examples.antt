@@ -2,7 +2,7 @@
 -- the constants 3 and 4; the second has one, which is the 4 again and is stored where the 3 was.
 use Rattle.std.specs.Prelude.{◌≡◌, ℕ, pos, true, List, [], ◌∷◌}
 use Rattle.execution.specs.Events.{after_all}
-use Rattle.execution.specs.Plans.{Load, Work, Plan}
+use Rattle.execution.specs.Plans.{Work, Plan}
 use Rattle.execution.specs.States.{resting, State, start, has_ended}
 use Rattle.execution.specs.declared.event.Event.{Event}
 use Rattle.execution.specs.declared.event.Event.TheVariants as event

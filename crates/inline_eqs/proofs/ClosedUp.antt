@@ -56,13 +56,13 @@ closed-same gone a b other other' = by (side gone a other) (side gone b other')
 
 -- the items of a list without one
 module _ {A : Type 0} where
-  before-same : (xs : List A) (gone x : ℕ) → x < gone → slice_get (take gone xs ++ drop (suc gone) xs) x ≡ slice_get xs x
+  pub before-same : (xs : List A) (gone x : ℕ) → x < gone → slice_get (take gone xs ++ drop (suc gone) xs) x ≡ slice_get xs x
   before-same xs zero x h = absurd (omega (arith, h))
   before-same [] (suc gone) x h = refl
   before-same (y ∷ xs) (suc gone) zero h = refl
   before-same (y ∷ xs) (suc gone) (suc x) h = before-same xs gone x (omega (arith, h))
 
-  behind-same : (xs : List A) (gone x : ℕ) → gone ≤ x → slice_get (take gone xs ++ drop (suc gone) xs) x ≡ slice_get xs (suc x)
+  pub behind-same : (xs : List A) (gone x : ℕ) → gone ≤ x → slice_get (take gone xs ++ drop (suc gone) xs) x ≡ slice_get xs (suc x)
   behind-same [] zero x h = refl
   behind-same [] (suc gone) x h = refl
   behind-same (y ∷ xs) zero x h = refl

@@ -18,12 +18,10 @@ use Rattle.expr_maps.specs.Put.{put}
 use Rattle.expr_maps.specs.Replaced.{replaced}
 use Rattle.rewriting.proofs.Bodies.{body-of, wide-domain}
 use Rattle.rewriting.proofs.FineParts.{AreFine, Defines, parts-fine, redefined-fine}
+use Rattle.rewriting.proofs.Locals.{reading-rows}
 use Rattle.rewriting.proofs.Shaped.{Suits, replaced-suits, put-shaped}
 use Rattle.rewriting.specs.Definitions.{Definition, definitions, defined_as}
 use Rattle.inline_eqs.specs.Inlining.{put_in, body_with, body_at}
-
-pub reading-rows : (params : ℕ) (f : AffineMap) → length (reading params f).rows ≡ params + length f.rows
-reading-rows params f = omega (arith, length-append (unit_rows f.width 0 params) f.rows, length-map-range_with_len (λ column. unit_row f.width column) 0 params)
 
 module _ (p : System) (program : IsProgram p) (into target : ℕ) (w : Variable) (declared : slice_get p.variables target ≡ Some w) (defined : body_of p.equations target ≡ Some (body_at p target)) where
   abbrev n : ℕ

@@ -20,30 +20,14 @@ use Rattle.expr_maps.specs.Answers.{EachAccess}
 use Rattle.rewriting.proofs.Accesses.{IsAccess, HasPlaceColumns, EachAccess-both}
 use Rattle.rewriting.proofs.Bodies.{wide-domain}
 use Rattle.rewriting.proofs.FineParts.{AreFine}
+use Rattle.rewriting.proofs.Locals.{local-declared, local-written, all-some, reading-rows}
 use Rattle.rewriting.proofs.PlaceColumns.{can-put_into, equation-columns, equation-accesses}
 use Rattle.rewriting.specs.Definitions.{Definition, definition_of, definitions}
 use Rattle.rewriting.specs.Named.{name_of, is_local, is_read_by, has_local_role}
 use Rattle.rewriting.specs.Promise.{KeepsMeaning, stays}
 use Rattle.inline_eqs.specs.Inlining.{body_with, body_at, inlined, CanPutIn, PutFits, InliningFits, inlining_refusal}
-use Rattle.inline_eqs.proofs.InliningFine.{inlining-fine, reading-rows}
+use Rattle.inline_eqs.proofs.InliningFine.{inlining-fine}
 use Rattle.inline_eqs.proofs.InliningMeaning.{inlining-keeps}
-
--- a local is declared, and no input
-pub local-declared : (p : System) (x : ℕ) → is_local p x ≡ true → (w : Variable) × (slice_get p.variables x ≡ Some w) × (has_local_role w.role ≡ true)
-local-declared p x local = by (slice_get p.variables x) refl local
-  where
-    by : (o : Option Variable) → slice_get p.variables x ≡ o → option_map_or (λ (v : Variable). has_local_role v.role) o false ≡ true → (w : Variable) × (slice_get p.variables x ≡ Some w) × (has_local_role w.role ≡ true)
-    by None is h = cc
-    by (Some w) is h = (w, is, h)
-
-pub local-written : (role : Role) → has_local_role role ≡ true → IsInput role → ⊥
-local-written Input h i = cc
-local-written Output h i = i
-local-written Local h i = i
-
-all-some : (f : Definition → Definition) (ds : List Definition) → filter_map (λ d. Some (f d)) ds ≡ map f ds
-all-some f [] = refl
-all-some f (d ∷ ds) = ap (λ es. f d ∷ es) (all-some f ds)
 
 -- a definition with the body put in
 abbrev pub one_of : ℕ → ℕ → ℕ → Term → Definition → Option Definition

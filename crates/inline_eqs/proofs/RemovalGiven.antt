@@ -4,10 +4,10 @@ use Rattle.std.specs.Prelude.{filter_map}
 use Rattle.az_ast.specs.Shapes.{IsProgram}
 use Rattle.az_ast.specs.System.{System}
 use Rattle.rewriting.proofs.FineParts.{AreFine}
+use Rattle.rewriting.proofs.Locals.{local-declared}
 use Rattle.rewriting.specs.Definitions.{definitions}
 use Rattle.rewriting.specs.Promise.{KeepsMeaning}
 use Rattle.inline_eqs.specs.Removal.{definition_without, variables_without, without, moves_up, removal_refusal}
-use Rattle.inline_eqs.proofs.InliningGiven.{local-declared}
 use Rattle.inline_eqs.proofs.RemovalFine.{removal-fine}
 use Rattle.inline_eqs.proofs.RemovalMeaning.{removal-keeps}
 use Rattle.inline_eqs.proofs.Unused.{is-local, unread, definitions-unread}

@@ -6,6 +6,7 @@ pub mod ExprOf
 pub mod FineParts
 pub mod Items
 pub mod Lookups
+pub mod Locals
 pub mod Made
 pub mod Moved
 pub mod PlaceColumns

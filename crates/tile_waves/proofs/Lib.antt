@@ -1,0 +1,10 @@
+pub mod Precedence
+pub mod Floors
+pub mod Earlier
+pub mod Columns
+pub mod Cuts
+pub mod ItemOrder
+pub mod Nested
+pub mod PointLists
+pub mod VariableLists
+pub mod Answered

@@ -1,0 +1,5 @@
+pub mod Keys
+pub mod Waves
+pub mod Answers
+pub mod Laws
+pub mod Inner

@@ -23,10 +23,10 @@ one_in file text p q h k = one_program text q p k h
 not_both_in : (file text : List ℕ) → NotBoth (program_in file text)
 not_both_in file text p refusal h (why, refused, is) = no_fault text p h why refused (λ e. let none : text_refusal file fault.Memory ≡ Some refusal = rw e at is in cc)
 
-one_certified : (p : System) → IsOne (certified p)
+pub one_certified : (p : System) → IsOne (certified p)
 one_certified p x y h k = h.0 ∙ sym k.0
 
-not_both_certified : (p : System) → NotBoth (certified p)
+pub not_both_certified : (p : System) → NotBoth (certified p)
 not_both_certified p q refusal h (why, refuses, is) = certified_or_not p why refusal h.1 refuses is
 
 module _ (told : Files) (file : List ℕ) where

@@ -8,4 +8,4 @@ mod commands;
 mod program;
 
 pub use commands::{check_program, load_program, show_program};
-pub use program::read_alphabets;
+pub use program::{read_alphabets, uncertified};

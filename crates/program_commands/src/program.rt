@@ -53,7 +53,7 @@ fn variable_name(alloc: Global, program: &Program, variable: u32) -> Result<Name
 }
 
 /// Why a program that isn't certified stops a command.
-fn uncertified(alloc: Global, program: &Program, fault: CertifyFault) -> Stop
+pub fn uncertified(alloc: Global, program: &Program, fault: CertifyFault) -> Stop
     ensures { IsStopFor (check_refusal program.now fault) result }
 {
     match fault {

@@ -54,6 +54,7 @@ step_pieces start first second now a i b j g one two three =
   where
     pair : (x y rest : List ℕ) → spaced x (spaced y []) ++ rest ≡ spaced x (spaced y rest)
     pair x y rest = append_assoc x (32 ∷ spaced y []) rest ∙ ap (λ text. spaced x text) (append_assoc y (32 ∷ []) rest)
+
     ended : spaced a (spaced i (spaced b (spaced j g))) ++ 10 ∷ [] ≡ spaced a (spaced i (spaced b (spaced j (g ++ 10 ∷ []))))
     ended =
         append_assoc a (32 ∷ spaced i (spaced b (spaced j g))) (10 ∷ [])

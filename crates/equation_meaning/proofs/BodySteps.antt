@@ -20,7 +20,7 @@ use Rattle.loop_scan.specs.declared.fault.ScanFault.{ScanFault}
 use Rattle.loop_scan.specs.declared.fault.ScanFault.TheVariants.{Overflow, Entry, Limit, Memory}
 use Rattle.value_walk.specs.Boxes.{IsBox, UnlessMemory, IsBoxFault}
 use Rattle.value_walk.specs.Chains.{IsReduction}
-use Rattle.value_walk.proofs.Steps.{branches_of}
+use Rattle.equation_meaning.proofs.Branches.{branches_of}
 use Rattle.equation_meaning.specs.Counts.{TermCounts, ChoiceCounts}
 use Rattle.equation_meaning.specs.declared.body_count.CountFault.{CountFault}
 use Rattle.equation_meaning.specs.declared.body_count.CountFault.TheVariants.{Many, Scan}

@@ -1,3 +1,4 @@
+pub mod Branches
 pub mod Sums
 pub mod Once
 pub mod FinitePoints

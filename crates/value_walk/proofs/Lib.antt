@@ -1,5 +1,6 @@
 pub mod PointPlaces
 pub mod SlotLemmas
+pub mod Codes
 pub mod Steps
 pub mod Bodies
 pub mod Readiness

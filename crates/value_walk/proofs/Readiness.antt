@@ -20,6 +20,8 @@ use Rattle.az_ast.proofs.FixedPoint.{With, Meant, Means-close}
 use Rattle.az_ast.proofs.ProgramLaws.{equation_is}
 use Rattle.az_ast.proofs.Members.{All-Contains}
 use Rattle.value_walk.specs.Chains.{IsReduction}
+use Rattle.value_walk.specs.Inner.Codes.{AreCodes}
+use Rattle.std.proofs.lemmas.Option.{slice_get_within}
 use Rattle.value_walk.specs.Inner.Ready.{IsAnswered, InputAnswers, SlotAnswers, IsReadyAt, IsReadySlot, SlotReads, SlotEvaluates, MeansIn}
 use Rattle.value_walk.specs.Inner.Slots.{point_of, IsSlot}
 use Rattle.value_walk.specs.Points.{points_of, ArePoints, AreCoordinates}
@@ -76,7 +78,7 @@ module _ (scene : Scene) (program : IsProgram scene.program.now) (points : ArePo
       by None e a w l g = absurd a
       by (Some v) e a w l g = roles v e v.role refl (member v a w) l g
 
-  module _ (certified : IsCertified p) (inside : HoldsSome p.pdom params) where
+  module _ (certified : IsCertified p) (inside : HoldsSome p.pdom params) (codes : AreCodes p scene.bodies.now) where
     module _ (slot : Slot) (listed : IsSlot scene.points.now slot) where
       abbrev k : List ℤ
       k = point_of scene.points.now slot
@@ -117,6 +119,7 @@ module _ (scene : Scene) (program : IsProgram scene.program.now) (points : ArePo
                 narrow = few-columns p program certified params long slot.variable v declared k m equation e;
                 range = All-append IsCoordinate params k small.parameters (small.points slot.place [] listed);
                 body = at_body (λ body. IsReadyAt scene slot body z) equation e (body-ready equation e);
+                code = codes slot.variable (slice_get_within p.variables slot.variable v declared);
                 means = λ w g. Means-close p scene.inputs.now params slot.variable k w
                     (at_point (λ (q : Variable). IsPointOf count q.domain params k × RoleGives q.role (InputGives scene.inputs.now slot.variable k w) (MatchOption (body_of p.equations slot.variable) ⊥ (λ body. With p (Meant p scene.inputs.now) body z w)))
                     (point, any _ _ g));

@@ -9,23 +9,25 @@ use Rattle.az_ast.proofs.Members.{All-Contains}
 use Rattle.loop_scan.proofs.Lists.{AllZip-push}
 use Rattle.value_walk.specs.Boxes.{IsBox}
 use Rattle.az_ast.specs.declared.op.Op.{Op}
-use Rattle.az_ast.specs.declared.expr.Expr.{Expr}
-use Rattle.az_ast.specs.declared.expr.Expr.TheVariants.{Access, Cases, Reduce}
-use Rattle.az_ast.specs.declared.expr.Branch.{Branch}
+use Rattle.value_walk.specs.declared.code.Code.{Code}
+use Rattle.value_walk.specs.declared.code.Code.TheVariants.{Access, Cases, Reduce}
+use Rattle.value_walk.specs.declared.code.Choice.{Choice}
 use Rattle.az_ast.specs.Meaning.{ChoiceGives, Means, equation_of, body_of}
 use Rattle.az_ast.specs.declared.program.Equation.{Equation}
 use Rattle.az_ast.specs.Nodes.{nodes, nodes_below}
 use Rattle.az_ast.specs.Operators.{applied, identity}
 use Rattle.az_ast.specs.Points.{AreMembers, IsMember}
-use Rattle.az_ast.specs.Term.{Term, Choices, access, reduction, choices, term}
-use Rattle.az_ast.proofs.Terms.{term-Access, term-Cases, term-Reduce}
+use Rattle.az_ast.specs.Term as ast
+use Rattle.az_ast.specs.Term.{Term, Choices, access, reduction, choices}
+use Rattle.value_walk.specs.Inner.Codes.{term, IsCodeAt}
+use Rattle.value_walk.proofs.Codes.{term-Access, term-Cases, term-Reduce}
 use Rattle.value_walk.specs.Inner.Ready.{IsAnswered, SlotEvaluates, IsReadyAt, MeansIn, Gives, both}
 use Rattle.value_walk.specs.Needs.{AreReady}
 use Rattle.value_walk.specs.declared.scene.Scene.{Scene}
 use Rattle.value_walk.specs.declared.slot.Slot.{Slot}
 
-abbrev pub branches_of : List Branch → Choices
-branches_of branches = choices (map (λ (b : Branch). (b.domain, term b.body)) branches)
+abbrev pub branches_of : List Choice → Choices
+branches_of branches = choices (map (λ (b : Choice). (b.domain, term b.body)) branches)
 
 abbrev pub AreReadyAt : Scene → Slot → Choices → List ℤ → Type 0
 AreReadyAt scene slot branches z = AreReady (length scene.program.now.params) (IsAnswered scene slot) (SlotEvaluates scene slot) branches z
@@ -33,30 +35,31 @@ AreReadyAt scene slot branches z = AreReady (length scene.program.now.params) (I
 abbrev pub ChoosesGive : Scene → Choices → List ℤ → ℤ → Type 0
 ChoosesGive scene branches z v = ChoiceGives (length scene.program.now.params) (λ x ps k w. Means scene.program.now scene.inputs.now ps x k w) branches z v
 
-pub record IsLeft (scene : Scene) (slot : Slot) (e : Expr) (z : List ℤ) (branches : List Branch) : Type 0 where
+pub record IsLeft (scene : Scene) (slot : Slot) (e : Code) (z : List ℤ) (branches : List Choice) : Type 0 where
   pub ready : AreReadyAt scene slot (branches_of branches) z
   pub gives : (v : ℤ) → ChoosesGive scene (branches_of branches) z v → Gives scene (term e) z v
 
-pub record IsFolded (scene : Scene) (op : Op) (body : Expr) (z : List ℤ) (points : List (List ℤ)) (total : ℤ) : Type 0 where
+pub record IsFolded (scene : Scene) (op : Op) (body : Code) (z : List ℤ) (points : List (List ℤ)) (total : ℤ) : Type 0 where
   pub values : List ℤ
   pub bodies : AllZip (λ k w. Gives scene (term body) (z ++ k) w) points values
   pub result : total ≡ fold (applied op) (identity op) values
 
 -- ---- the body of a branch and of a reduction is smaller
 
-nodes-within : (branches : List Branch) (i : ℕ) (d : Branch) → i < length branches → nodes (term (slice_index_or branches i d).body) ≤ nodes_below (branches_of branches)
-nodes-within [] i d h = absurd (omega arith)
-nodes-within (b ∷ branches) zero d h = omega arith
-nodes-within (b ∷ branches) (suc i) d h = let rest = nodes-within branches i d (omega arith) in omega (arith, rest)
+-- one of some parts, each of a domain and a body
+pub nodes-within : {B : Type 0} (part : B → Union × Term) (branches : List B) (i : ℕ) (d : B) → i < length branches → nodes (part (slice_index_or branches i d)).1 ≤ nodes_below (choices (map part branches))
+nodes-within part [] i d h = absurd (omega arith)
+nodes-within part (b ∷ branches) zero d h = omega arith
+nodes-within part (b ∷ branches) (suc i) d h = let rest = nodes-within part branches i d (omega arith) in omega (arith, rest)
 
-pub branch-smaller : (e : Expr) (branches : List Branch) (i : ℕ) (branch : Branch) → e ≡ Cases branches → i < length branches → branch ≡ slice_index_or branches i branch → nodes (term branch.body) < nodes (term e)
+pub branch-smaller : (e : Code) (branches : List Choice) (i : ℕ) (branch : Choice) → e ≡ Cases branches → i < length branches → branch ≡ slice_index_or branches i branch → nodes (term branch.body) < nodes (term e)
 branch-smaller e branches i branch is h found =
-    let below = nodes-within branches i branch h in
-    let same = ap (λ (b : Branch). nodes (term b.body)) found in
+    let below = nodes-within (λ (b : Choice). (b.domain, term b.body)) branches i branch h in
+    let same = ap (λ (b : Choice). nodes (term b.body)) found in
     let form = ap nodes (ap term is ∙ term-Cases branches) in
     omega (arith, below, same, form)
 
-pub body-smaller : (e : Expr) (op : Op) (extra : ℕ) (domain : Union) (body : Expr) → e ≡ Reduce op extra domain body → nodes (term body) < nodes (term e)
+pub body-smaller : (e : Code) (op : Op) (extra : ℕ) (domain : Union) (body : Code) → e ≡ Reduce op extra domain body → nodes (term body) < nodes (term e)
 body-smaller e op extra domain body is =
     let form = ap nodes (ap term is ∙ term-Reduce op extra domain body) in
     omega (arith, form)
@@ -71,7 +74,7 @@ over_ok P Q (Ok found) f h = over_some P Q found f h
 over_ok P Q (Err e) f h = tt
 
 module _ (scene : Scene) (slot : Slot) (z : List ℤ) where
-  module _ (e : Expr) (branches : List Branch) (i : ℕ) (branch : Branch) (within : i < length branches) (found : branch ≡ slice_index_or branches i branch) (left : IsLeft scene slot e z (drop i branches)) where
+  module _ (e : Code) (branches : List Choice) (i : ℕ) (branch : Choice) (within : i < length branches) (found : branch ≡ slice_index_or branches i branch) (left : IsLeft scene slot e z (drop i branches)) where
     here : IsLeft scene slot e z (branch ∷ drop (suc i) branches)
     here = subst (λ bs. IsLeft scene slot e z bs) (drop-cons branches i branch within ∙ ap (λ b. b ∷ drop (suc i) branches) (sym found)) left
 
@@ -84,7 +87,7 @@ module _ (scene : Scene) (slot : Slot) (z : List ℤ) where
 
   -- an access has the value that was read
   pub access-gives :
-      (e : Expr) (x : ℕ) (f : AffineMap) (image : List ℤ) (found : Option ℤ) → e ≡ Access x f → image ≡ image_of f z → IsReadyAt scene slot (term e) z →
+      (e : Code) (x : ℕ) (f : AffineMap) (image : List ℤ) (found : Option ℤ) → e ≡ Access x f → image ≡ image_of f z → IsReadyAt scene slot (term e) z →
       IfSome found (MeansIn scene x image) → IfSome found (Gives scene (term e) z)
   access-gives e x f image None is same ready h = tt
   access-gives e x f image (Some v) is same ready h =
@@ -94,7 +97,7 @@ module _ (scene : Scene) (slot : Slot) (z : List ℤ) where
       subst (λ t. Gives scene t z v) (sym form)
       (subst (λ ps. Means scene.program.now scene.inputs.now ps x (image_of f z) v) (sym parameters) (subst (λ k. MeansIn scene x k v) same h))
 
-  module _ (e : Expr) (op : Op) (extra : ℕ) (domain : Union) (body : Expr) (is : e ≡ Reduce op extra domain body) (ready : IsReadyAt scene slot (term e) z) (points : List (List ℤ)) (box : IsBox domain z points) where
+  module _ (e : Code) (op : Op) (extra : ℕ) (domain : Union) (body : Code) (is : e ≡ Reduce op extra domain body) (ready : IsReadyAt scene slot (term e) z) (points : List (List ℤ)) (box : IsBox domain z points) where
     needs : IsReadyAt scene slot (reduction op extra domain (term body)) z
     needs = subst (λ t. IsReadyAt scene slot t z) (ap term is ∙ term-Reduce op extra domain body) ready
 
@@ -140,7 +143,7 @@ module _ (scene : Scene) (slot : Slot) (z : List ℤ) where
   fold-more f unit (w ∷ vs) v = fold-more f (f unit w) vs v
 
   pub fold-step :
-      (op : Op) (body : Expr) (points : List (List ℤ)) (i m n : ℕ) (k y : List ℤ) (total value result : Option ℤ) → i < length points → k ≡ slice_index_or points i k → y ≡ z ++ k → m ≤ n →
+      (op : Op) (body : Code) (points : List (List ℤ)) (i m n : ℕ) (k y : List ℤ) (total value result : Option ℤ) → i < length points → k ≡ slice_index_or points i k → y ≡ z ++ k → m ≤ n →
       MatchOption total (0 < m) (IsFolded scene op body z (take i points)) → IfSome value (Gives scene (term body) y) → IfNone value (0 < n) →
       result ≡ both (applied op) total value → MatchOption result (0 < n) (IsFolded scene op body z (take (i + 1) points))
   fold-step op body points i m n k y total value result h found same more t v none is =
@@ -163,5 +166,14 @@ module _ (scene : Scene) (slot : Slot) (z : List ℤ) where
           }
 
 -- the body of a variable's equation
-pub body-found : (equations : List Equation) (x : ℕ) (equation : Equation) → equation_of equations x ≡ Some equation → (P : Term → Type 0) → P (term equation.body) → MatchOption (body_of equations x) ⊥ P
-body-found equations x equation e P h = subst (λ o. MatchOption (option_map (λ (q : Equation). term q.body) o) ⊥ P) (sym e) h
+pub body-found : (equations : List Equation) (x : ℕ) (equation : Equation) → equation_of equations x ≡ Some equation → (P : Term → Type 0) → P (ast.term equation.body) → MatchOption (body_of equations x) ⊥ P
+body-found equations x equation e P h = subst (λ o. MatchOption (option_map (λ (q : Equation). ast.term q.body) o) ⊥ P) (sym e) h
+
+-- and the code that is made of it
+pub code-has : (o : Option Term) (code : Code) (P : Term → Type 0) → MatchOption o (Unit {0}) (λ body. term code ≡ body) → MatchOption o ⊥ P → P (term code)
+code-has None code P same h = absurd h
+code-has (Some body) code P same h = subst P (sym same) h
+
+pub code-gives : (o : Option Term) (code : Code) (P Q : Term → Type 0) → MatchOption o (Unit {0}) (λ body. term code ≡ body) → MatchOption o ⊥ P → Q (term code) → MatchOption o ⊥ Q
+code-gives None code P Q same h g = absurd h
+code-gives (Some body) code P Q same h g = subst Q same g

@@ -8,6 +8,8 @@ ghost use Rattle.value_walk.specs.Points.{ArePoints};
 ghost use Rattle.value_walk.specs.Inner.Walks.{IsGood};
 ghost use Rattle.value_walk.specs.Meanings.{AreMeanings, HaveInputs, IsCause};
 
+use crate::code::bodies;
+use crate::grid::Grid;
 use crate::refusal::EvalRefusal;
 use crate::scene::Scene;
 use crate::slot::{Slot, State};
@@ -78,6 +80,23 @@ fn settled(alloc: Global, scene: &Scene) -> Result<Vec<Items<State>>, EvalRefusa
     Ok(walk.states)
 }
 
+/// Those of all variables, by their numbers.
+fn grids(
+    alloc: Global,
+    inputs: &Inputs,
+    points: &[List<List<i128>>],
+) -> Result<Vec<Grid>, AllocError> {
+    let mut grids = Vec::with_capacity(alloc, points.len())?;
+    for x in 0..points.len() {
+        let grid = match inputs.table(u32::try_from(x).unwrap_or(u32::MAX)) {
+            Some(table) => Grid::of_rows(alloc, table.rows())?,
+            None => Grid::of_points(alloc, points[x].as_slice())?,
+        };
+        grids.push(grid)?;
+    }
+    Ok(grids)
+}
+
 /// The table of each output and local over its domain, by the numbers of the variables, given the
 /// points of each.
 pub fn values(
@@ -99,11 +118,18 @@ pub fn values(
     let program = checked.program();
     let variables = program.variables();
     let _ = variables;
+    let bodies = bodies(alloc, program)?;
+    let codes = bodies.as_slice();
+    let listed = points.as_slice();
+    let grids = grids(alloc, inputs, listed)?;
+    let guesses = grids.as_slice();
     let scene = Scene {
         program,
         params,
         inputs,
-        points: points.as_slice(),
+        points: listed,
+        bodies: codes,
+        grids: guesses,
     };
     let states = settled(alloc, &scene)?;
     match tables(alloc, program, params, inputs, points, &states) {

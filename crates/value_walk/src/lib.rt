@@ -4,8 +4,10 @@
 #![tactic(auto)]
 
 mod boxes;
+mod code;
 mod cycle;
 mod evaluation;
+mod grid;
 mod place;
 mod points;
 mod reader;

@@ -1,28 +1,55 @@
 //! What is evaluated: a program at some parameters and tables of its inputs, and its points.
 
-ghost use Rattle.std.specs.Prelude.{◌≡◌, IfOk};
+ghost use Rattle.std.specs.Prelude.{◌≡◌, IfOk, IfSome};
+ghost use Rattle.az_ast.specs.Tables.{TableGives};
 ghost use Rattle.value_walk.specs.Inner.Slots.{IsSlot, point_of, state_of};
 ghost use Rattle.value_walk.specs.Inner.Ready.{InputAnswers, SlotAnswers, AreStates, MeansIn};
 ghost use Rattle.value_walk.specs.Inner.Walks.{name_of};
 
-use crate::place::place_of;
+use crate::code::Code;
+use crate::grid::Grid;
+use crate::place::{is_point, place_of};
 use crate::refusal::PointName;
 use crate::slot::{Slot, State};
-use az_ast::{Inputs, Program};
+use az_ast::{Inputs, Program, Table};
 use az_lin::List;
 use sqlite_items::Items;
 use std::alloc::{AllocError, Global};
 
-/// The points of the outputs and locals stand by the numbers of the variables.
+/// The points of the outputs and locals stand by the numbers of the variables, and so do the bodies of
+/// the equations. The grids guess where a point stands among those of its variable, or its row in the
+/// table of an input.
 #[derive(Drop)]
 pub(crate) struct Scene<'a> {
     pub(crate) program: &'a Program,
     pub(crate) params: &'a [i128],
     pub(crate) inputs: &'a Inputs,
     pub(crate) points: &'a [List<List<i128>>],
+    pub(crate) bodies: &'a [Code],
+    pub(crate) grids: &'a [Grid],
+}
+
+/// The value of the row at this place, if it has this point.
+fn value_at(table: &Table, k: &[i128], place: usize) -> Option<i64>
+    ensures { IfSome result (TableGives table.now k.now) }
+{
+    let rows = table.rows();
+    if place < rows.len() && is_point(&rows[place].0, k) {
+        Some(rows[place].1)
+    } else {
+        None
+    }
 }
 
 impl Scene<'_> {
+    /// Where the point may stand.
+    fn guess(&self, x: u32, k: &[i128]) -> usize {
+        match self.grids.get(x as usize) {
+            Some(grid) => grid.guess(k),
+            None => 0,
+        }
+    }
+
     pub(crate) fn input_value(&self, x: u32, k: &[i128]) -> i64
         requires { InputAnswers self.now x k.now }
         ensures { MeansIn self.now x k.now result }
@@ -30,6 +57,9 @@ impl Scene<'_> {
         let Some(table) = self.inputs.table(x) else {
             unreachable!()
         };
+        if let Some(value) = value_at(table, k, self.guess(x, k)) {
+            return value;
+        }
         let Some(value) = table.value(k) else {
             unreachable!()
         };
@@ -44,7 +74,7 @@ impl Scene<'_> {
         ensures variable { result.variable ≡ x }
         ensures point { point_of self.now.points.now result ≡ k.now }
     {
-        let place = place_of(self.points[x as usize].as_slice(), k);
+        let place = place_of(self.points[x as usize].as_slice(), k, self.guess(x, k));
         Slot { variable: x, place }
     }
 

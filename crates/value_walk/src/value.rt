@@ -3,19 +3,20 @@
 ghost use Rattle.std.specs.Prelude.{◌≡◌, ◌<◌, ◌≤◌, [], length, All, IfOk, IfErr, IfSome, IfNone, vec_len};
 ghost use Rattle.az_lin.specs.Affine.{IsCoordinate};
 ghost use Rattle.az_ast.specs.Operators.{applied};
-ghost use Rattle.az_ast.specs.Term.{term};
+ghost use Rattle.value_walk.specs.Inner.Codes.{term};
 ghost use Rattle.value_walk.specs.Boxes.{IsBox};
 ghost use Rattle.value_walk.specs.Inner.Slots.{IsSlot, point_of};
 ghost use Rattle.value_walk.specs.Inner.Ready.{IsReadyAt, IsReadySlot, SlotEvaluates, AreStates, IsPending, IsFault, MeansIn, Gives, both};
 
 use crate::boxes::members;
+use crate::code::Code;
 use crate::reader::Reader;
 use crate::slot::{Slot, State};
-use az_ast::{Expr, Op, apply_op, identity_of, wrap};
+use az_ast::{Op, apply_op, identity_of, wrap};
 use az_lin::{Domain, List};
 use loop_scan::ScanFault;
 use smallvec::SmallVec;
-use sqlite_items::Items;
+use sqlite_items::{Items, at};
 use std::alloc::Global;
 
 /// The operator's value where both operands are there.
@@ -58,7 +59,7 @@ impl Reader<'_> {
     pub(crate) fn value_of(
         &self,
         alloc: Global,
-        e: &Expr,
+        e: &Code,
         z: &[i128],
         states: &[Items<State>],
         reads: &mut Vec<Slot>,
@@ -75,27 +76,27 @@ impl Reader<'_> {
         ensures cause { IfErr result (IsFault self.now.scene.now self.now.slot) }
     {
         match e {
-            Expr::Const(v) => Ok(Some(*v)),
-            Expr::Index(row) => Ok(Some(wrap(row.value(z)))),
-            Expr::Access(x, f) => {
+            Code::Const(v) => Ok(Some(*v)),
+            Code::Index(row) => Ok(Some(wrap(row.value(z)))),
+            Code::Access(x, f) => {
                 let mut image = [0; 8];
-                let image = &mut image[..f.rows().len()];
+                let image = &mut image[..f.len()];
                 f.apply(z, image);
                 match self.read(states, *x, image, reads) {
                     Ok(found) => Ok(found),
                     Err(_) => Err(ScanFault::Memory),
                 }
             }
-            Expr::Neg(e) => {
+            Code::Neg(e) => {
                 let value = self.value_of(alloc, e.get(), z, states, reads)?;
                 Ok(combined(Op::Sub, Some(0), value))
             }
-            Expr::Bin(op, a, b) => {
+            Code::Bin(op, a, b) => {
                 let left = self.value_of(alloc, a.get(), z, states, reads)?;
                 let right = self.value_of(alloc, b.get(), z, states, reads)?;
                 Ok(combined(*op, left, right))
             }
-            Expr::Cases(branches) => {
+            Code::Cases(branches) => {
                 'branches: for branch in branches.as_slice() {
                     if branch.domain.holds(z) {
                         return self.value_of(alloc, &branch.body, z, states, reads);
@@ -103,7 +104,7 @@ impl Reader<'_> {
                 }
                 unreachable!()
             }
-            Expr::Reduce(op, extra, domain, body) => {
+            Code::Reduce(op, extra, domain, body) => {
                 let points = self.body_points(alloc, *extra, domain, z)?;
                 let mut point = Vec::from_slice(alloc, z)?;
                 let mut total = Some(identity_of(*op));
@@ -134,11 +135,12 @@ impl Reader<'_> {
         ensures none { IfOk result (λ found. IfNone found (0 < vec_len reads.new)) }
         ensures cause { IfErr result (IsFault self.now.scene.now self.now.slot) }
     {
-        let Some(equation) = self.scene.program.equation(self.slot.variable) else {
+        let Some(body) = at(self.scene.bodies, self.slot.variable as usize) else {
             unreachable!()
         };
-        let mut z: SmallVec<i128, 16> = SmallVec::from_slice(alloc, self.scene.params)?;
+        let mut z: SmallVec<i128, 16> = SmallVec::new(alloc);
+        z.extend_from_slice(self.scene.params)?;
         z.extend_from_slice(self.scene.point(self.slot))?;
-        self.value_of(alloc, &equation.body, z.as_slice(), states, reads)
+        self.value_of(alloc, body, z.as_slice(), states, reads)
     }
 }

@@ -11,6 +11,7 @@ use Rattle.value_walk.specs.Boxes.{BoxRefuses, UnlessMemory}
 use Rattle.value_walk.specs.Chains.{PointEvaluates}
 use Rattle.value_walk.specs.Needs.{IsReady}
 use Rattle.value_walk.specs.Points.{points_of, ArePoints}
+use Rattle.value_walk.specs.Inner.Codes.{IsCodeAt}
 use Rattle.value_walk.specs.Inner.Slots.{point_of, IsSlot, States, state_of, IsKnown, AreAligned, AreMeant}
 use Rattle.value_walk.specs.Points.{points_of, ArePoints}
 use Rattle.loop_scan.specs.declared.fault.ScanFault.{ScanFault}
@@ -61,11 +62,12 @@ HasReadyBody scene slot =
     MatchOption (body_of scene.program.now.equations slot.variable) ⊥
     (λ body. IsReadyAt scene slot body (scene.params.now ++ point_of scene.points.now slot))
 
--- a slot's point is in range, and has what its equation's body has
+-- a slot's point is in range, its equation's body is made ready, and it has what the body has
 pub record IsReadySlot (scene : Scene) (slot : Slot) : Type 0 where
   pub narrow : length (scene.params.now ++ point_of scene.points.now slot) ≤ 24
   pub range : All IsCoordinate (scene.params.now ++ point_of scene.points.now slot)
   pub body : HasReadyBody scene slot
+  pub code : MatchOption (slice_get scene.bodies.now slot.variable) ⊥ (IsCodeAt scene.program.now slot.variable)
   pub means :
       (v : ℤ) → MatchOption (body_of scene.program.now.equations slot.variable) ⊥ (λ body. Gives scene body (scene.params.now ++ point_of scene.points.now slot) v) →
       MeansIn scene slot.variable (point_of scene.points.now slot) v

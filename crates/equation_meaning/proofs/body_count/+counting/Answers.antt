@@ -6,7 +6,7 @@ use Rattle.az_ast.specs.Nodes.{nodes}
 use Rattle.az_ast.specs.Term.{term}
 use Rattle.az_ast.specs.declared.expr.Expr.{Expr}
 use Rattle.az_ast.specs.declared.expr.Expr.TheVariants.{Cases}
-use Rattle.value_walk.proofs.Steps.{branch-smaller, body-smaller}
+use Rattle.equation_meaning.proofs.Branches.{branch-smaller, body-smaller}
 use Rattle.equation_meaning.specs.Counts.{TermCounts}
 use Rattle.equation_meaning.specs.Inner.Counting.{Evaluated, IsCounted, CountFails, IsCountable, CanCount, TermAnswers, BodyAnswers}
 use Rattle.equation_meaning.proofs.Once.{counts-once}

@@ -1,6 +1,6 @@
 use Rattle.std.proofs.Common.{◌≡◌, drop}
 use Rattle.az_ast.specs.Term.{term}
-use Rattle.value_walk.proofs.Steps.{branches_of}
+use Rattle.equation_meaning.proofs.Branches.{branches_of}
 use Rattle.equation_meaning.specs.Inner.Counting.{has_reduction, have_reduction}
 use Rattle.equation_meaning.proofs.body_count.+has_reduction.Given as goal
 

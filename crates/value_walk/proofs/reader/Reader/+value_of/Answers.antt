@@ -2,9 +2,9 @@ use Rattle.std.proofs.Math.Seq.{take-append_seam}
 use Rattle.std.proofs.Common.{length-append, rules, ◌≡◌, ◌<◌, ◌++◌, length, take, sym, ap, subst, ◌∙◌, arith}
 use Rattle.std.specs.Prelude.{slice_index_or, Contains, IfSome, MatchOption, vec_len}
 use Rattle.az_lin.specs.Affine.{HoldsSome}
-use Rattle.az_ast.specs.Term.{term}
-use Rattle.az_ast.specs.declared.expr.Expr.TheVariants.{Cases}
-use Rattle.az_ast.specs.declared.expr.Expr.{Expr}
+use Rattle.value_walk.specs.Inner.Codes.{term}
+use Rattle.value_walk.specs.declared.code.Code.TheVariants.{Cases}
+use Rattle.value_walk.specs.declared.code.Code.{Code}
 use Rattle.az_ast.specs.Nodes.{nodes}
 use Rattle.value_walk.specs.Boxes.{IsBox}
 use Rattle.value_walk.specs.Inner.Ready.{IsReadyAt, Gives}
@@ -47,7 +47,7 @@ value_of-requires-in-points t c =
     let same : c.deref.result.now ≡ z ++ k = c.deref.ensures.value ∙ items in
     let body : c.get-in-points.result.now ≡ c.in-Reduce.body = c.get-in-points.ensures in
     let smaller = body-smaller c.args.e.now c.in-Reduce.op c.in-Reduce.extra c.in-Reduce.domain c.in-Reduce.body c.in-Reduce.is in (
-      omega (arith, c.decreases, smaller, ap (λ (b : Expr). nodes (term b)) body),
+      omega (arith, c.decreases, smaller, ap (λ (b : Code). nodes (term b)) body),
       (
         subst (λ b. IsReadyAt scene c.args.self.now.slot (term b) c.deref.result.now) (sym body) (body-ready scene c.args.self.now.slot z c.args.e.now c.in-Reduce.op c.in-Reduce.extra c.in-Reduce.domain c.in-Reduce.body c.in-Reduce.is c.requires.ready points box c.deref.result.now k same contains),
         (

@@ -1,7 +1,7 @@
 use Rattle.std.proofs.Common.{◌≡◌, ◌<◌, ◌≤◌, length, take, drop}
 use Rattle.std.specs.Prelude.{All, MatchOption, vec_len}
 use Rattle.az_ast.specs.Nodes.{nodes}
-use Rattle.az_ast.specs.Term.{term}
+use Rattle.value_walk.specs.Inner.Codes.{term}
 use Rattle.value_walk.specs.Inner.Ready.{IsPending}
 use Rattle.value_walk.proofs.Steps.{IsLeft, IsFolded}
 use Rattle.value_walk.proofs.reader.Reader.+value_of.Given as goal

@@ -9,9 +9,6 @@ use equation_meaning::{EvalRefusal, PointName};
 use std::alloc::{AllocError, Global};
 use std::test::Fail;
 
-/// A text, its parameters, the numbers of its inputs one after another, and the answer.
-pub(crate) type Case = (&'static str, &'static [i128], &'static [i64], &'static str);
-
 fn push(alloc: Global, said: &mut String, mark: &str, number: i128) -> Result<(), AllocError> {
     let shown = format!(in alloc; "{mark}{number}")?;
     said.push_str(shown.as_str())

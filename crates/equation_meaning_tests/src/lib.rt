@@ -4,16 +4,10 @@
 #[cfg(test)]
 mod answer;
 #[cfg(test)]
-mod cycles;
+mod cases;
 mod inputs;
-#[cfg(test)]
-mod limits;
-#[cfg(test)]
-mod programs;
-#[cfg(test)]
-mod recurrences;
-#[cfg(test)]
-mod reductions;
 mod sample;
+#[cfg(test)]
+mod tests;
 
 pub use sample::evaluated;

@@ -1,5 +1,5 @@
 -- A number at the front of a line, or alone on it, as grammar_rules reads it.
-use Rattle.std.proofs.Common.{◌≡◌, ℕ, ◌<◌, ◌^◌, ℤ, pos, negsuc, List, [], ◌∷◌, ◌++◌, append-nil, refl, sym, arith, ◌∙◌}
+use Rattle.std.proofs.Common.{◌≡◌, ℕ, ◌<◌, ℤ, pos, negsuc, List, [], ◌∷◌, append-nil, refl, sym, arith, ◌∙◌}
 use Rattle.std.specs.Fmt.{decimal, signed_decimal}
 use Rattle.grammar_rules.specs.Decimals.{BeginsWithNatural, BeginsWithInteger, Has128Bits}
 use Rattle.line_fields.specs.Fields.{IsWide, spaced}

@@ -1,11 +1,10 @@
 -- A line is split at its first space, in one way.
-use Rattle.std.proofs.Common.{◌≡◌, ℕ, suc, ◌+◌, ◌<◌, List, [], ◌∷◌, ◌++◌, take, drop, length, get_or, refl, sym, ap, subst, ◌∙◌, add-one, drop-cons, arith}
+use Rattle.std.proofs.Common.{◌≡◌, ℕ, ◌+◌, ◌<◌, List, [], ◌∷◌, ◌++◌, take, drop, length, get_or, refl, sym, ap, subst, ◌∙◌, add-one, drop-cons}
 use Rattle.std.proofs.lemmas.Bool.{eqb-true, not-false, false≢true}
 use Rattle.std.proofs.lemmas.List.{append_cancel_left, take-append-drop}
 use Rattle.std.proofs.Math.Seq.{take-length}
 use Rattle.std.specs.Prelude.{◌==◌}
 use Rattle.std.specs.List.{prefix_len}
-use Rattle.az_text.specs.Tokens.{AllAre}
 use Rattle.az_text.proofs.Runs.{Stops, run_passes, run_stops, run_only}
 use Rattle.line_fields.specs.Fields.{IsWord, is_in_word, spaced, FieldsAreOne}
 

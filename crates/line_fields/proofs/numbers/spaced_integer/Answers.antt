@@ -1,4 +1,4 @@
-use Rattle.std.proofs.Common.{◌≡◌, ◌∷◌, ◌<◌, ◌^◌, ℤ, arith, sym, subst, ◌∙◌}
+use Rattle.std.proofs.Common.{◌∷◌, arith, sym, subst}
 use Rattle.std.proofs.lemmas.Int.{ints}
 use Rattle.grammar_rules.proofs.DecimalLaws.{integers_are_one}
 use Rattle.line_fields.specs.Fields.{IsWide}

@@ -1,4 +1,4 @@
-use Rattle.std.proofs.Common.{◌≡◌, ◌∷◌, arith, sym, ◌∙◌}
+use Rattle.std.proofs.Common.{◌∷◌, arith}
 use Rattle.grammar_rules.proofs.DecimalLaws.{naturals_are_one}
 use Rattle.line_fields.proofs.Numerals.{natural_first}
 use Rattle.line_fields.proofs.numbers.spaced_natural.Goals as goal

@@ -1,0 +1,30 @@
+use Rattle.std.proofs.Common.{◌≡◌, rules, sym, subst}
+use Rattle.std.specs.Prelude.{Some, Ok, Err}
+use Rattle.session_state.specs.Session.{Session, IsOfProgram, IsSound}
+use Rattle.session_state.specs.Steps.{TakesAlone}
+use Rattle.rewrite_commands.specs.Changes.{removal}
+use Rattle.rewrite_commands.specs.Commands.{remove_unused}
+use Rattle.rewrite_commands.proofs.Kept.{removal_params}
+use Rattle.rewrite_commands.proofs.Taken.{changing_takes, changing_stops}
+use Rattle.rewrite_commands.proofs.commands.remove_unused.Goals as goal
+
+pub returns-in_err-changed-clause-answer : goal.returns-in_err-changed-clause-answer
+returns-in_err-changed-clause-answer c =
+    let stop = c.in_err-changed.field-0.0 in
+    let handed : c.from_residual.result ≡ Err stop = search rules in
+    let there : c.args.session.now ≡ Some c.in-Some.loaded = search rules in
+    rw handed (subst (λ (s : Session). TakesAlone (remove_unused s c.args.name.now) (Err stop)) (sym there)
+    (changing_stops c.in-Some.loaded (removal c.args.name.now) stop c.in_err-changed.ensures))
+
+pub returns-clause-answer : goal.returns-clause-answer
+returns-clause-answer c =
+    let now = c.change.new.loaded in
+    let there : c.args.session.now ≡ Some c.in-Some.loaded = search rules in
+    subst (λ (s : Session). TakesAlone (remove_unused s c.args.name.now) (Ok (record { session = Some now; text = c.new.result }))) (sym there)
+    (changing_takes c.in-Some.loaded (removal c.args.name.now) c.in_ok-changed.changed now c.new.result c.in_ok-changed.ensures c.change.ensures.value c.new.ensures)
+
+pub returns-clause-sound : goal.returns-clause-sound
+returns-clause-sound c =
+    let there : c.args.session.now ≡ Some c.in-Some.loaded = search rules in
+    let sound : IsOfProgram c.in-Some.loaded = subst IsSound there c.requires.sound in
+    c.change.ensures.sound (removal_params c.args.name.now c.in-Some.loaded.current c.in_ok-changed.changed c.in_ok-changed.ensures) sound

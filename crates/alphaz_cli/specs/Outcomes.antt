@@ -6,7 +6,7 @@ use Rattle.session_state.specs.declared.refusal.Refusal.{Refusal}
 use Rattle.session_state.specs.declared.refusal.Refusal.TheVariants as refusal
 use Rattle.session_state.specs.declared.stop.Stop.TheVariants as stop
 use Rattle.alphaz_cli.specs.declared.status.Outcome.{Outcome}
-use Rattle.alphaz_cli.specs.declared.status.Outcome.TheVariants.{Done, Usage, ReadFault, WriteFault, Text, Shape, ProgramNo, Command, Overflow, Limited, BadTable, Memory, Cycle}
+use Rattle.alphaz_cli.specs.declared.status.Outcome.TheVariants.{Done, Usage, ReadFault, WriteFault, Text, Shape, ProgramNo, Command, MappingNo, Overflow, Limited, BadTable, Memory, Certificate, Cycle}
 
 abbrev pub outcome_of_refusal : Refusal → Outcome
 outcome_of_refusal refusal.Usage = Usage
@@ -14,9 +14,11 @@ outcome_of_refusal (refusal.Text file kind place) = Text file kind place
 outcome_of_refusal (refusal.Shape kind item) = Shape kind item
 outcome_of_refusal (refusal.ProgramNo kind variable number point) = ProgramNo kind variable number point
 outcome_of_refusal (refusal.Command reason) = Command reason
+outcome_of_refusal (refusal.MappingNo formula number point) = MappingNo formula number point
 outcome_of_refusal (refusal.Overflow spot) = Overflow spot
 outcome_of_refusal (refusal.Limited limit) = Limited limit
 outcome_of_refusal (refusal.BadTable input row kind) = BadTable input row kind
+outcome_of_refusal (refusal.Certificate spot) = Certificate spot
 outcome_of_refusal (refusal.Cycle chain names) = Cycle chain
 
 abbrev pub outcome : Ending → Outcome

@@ -7,7 +7,7 @@ use az_ast::{Reason, ShapeKind};
 use az_desk::Call;
 use az_lin::{Limit, List, Name, RatPoint};
 use domain_check::CheckKind;
-use session_state::{Refusal, Spot, Stop, TextKind};
+use session_state::{CertificateSpot, FormulaName, Refusal, Spot, Stop, TextKind};
 use table_data::RowKind;
 use value_walk::PointName;
 
@@ -30,6 +30,12 @@ pub enum Outcome {
     ProgramNo(CheckKind, Name, u32, RatPoint),
     /// A reason of a command's own.
     Command(Reason),
+    /// The formula of the mapping, and the number of its first case that isn't refuted, with an open point.
+    MappingNo {
+        formula: FormulaName,
+        case_no: u32,
+        point: RatPoint,
+    },
     /// Where an exact number left 128 bits.
     Overflow(Spot),
     /// The count that was exceeded.
@@ -38,6 +44,8 @@ pub enum Outcome {
     BadTable(Name, u64, RowKind),
     /// Memory ran out.
     Memory,
+    /// What is wrong with a certificate.
+    Certificate(CertificateSpot),
     /// A closed chain: each point's equation reads the next point, and the last one's the first.
     Cycle(List<PointName>),
 }
@@ -60,9 +68,19 @@ fn outcome_of_refusal(refusal: Refusal) -> Outcome
             Outcome::ProgramNo(kind, variable, case_no, point)
         }
         Refusal::Command(reason) => Outcome::Command(reason),
+        Refusal::MappingNo {
+            formula,
+            case_no,
+            point,
+        } => Outcome::MappingNo {
+            formula,
+            case_no,
+            point,
+        },
         Refusal::Overflow(spot) => Outcome::Overflow(spot),
         Refusal::Limited(limit) => Outcome::Limited(limit),
         Refusal::BadTable(input, row, kind) => Outcome::BadTable(input, row, kind),
+        Refusal::Certificate(spot) => Outcome::Certificate(spot),
         Refusal::Cycle { chain, .. } => Outcome::Cycle(chain),
     }
 }

@@ -1,7 +1,6 @@
 //! Certificates written as text.
 
 ghost use Rattle.std.specs.Prelude.{◌≡◌, ◌++◌, ◌∷◌, [], All, OnOk, IfOk, map, string_bytes};
-ghost use Rattle.az_ast.specs.Writable.{IsWritable};
 ghost use Rattle.cert_text.specs.Answers.{Writes};
 ghost use Rattle.cert_text.specs.Lines.{IsOfProgram, case_line, case_lines, proved_lines, step_line, text_of, which_line};
 ghost use Rattle.cert_text.specs.Versions.{IsVersion};
@@ -137,7 +136,6 @@ pub fn write_certificate(
 ) -> Result<List<u8>, CertFault>
     requires version { IsVersion certificate.now.version }
     requires own { All (λ proved. IsOfProgram program.now proved.which) certificate.now.proved }
-    requires writable { IsWritable program.now }
     ensures answer { Writes program.now certificate.now result }
 {
     let text = written(alloc, certificate, program)?;

@@ -1,17 +1,23 @@
 -- The commands that are left.
 use Rattle.std.proofs.Common.{◌≡◌, ℕ, suc, ◌+◌, ◌<◌, List, [], ◌∷◌, length, get_or, drop, inl, inr, refl, sym, ap, subst, ◌∙◌, add-one, drop-cons, arith}
 use Rattle.std.specs.Prelude.{None, Ok, Err}
-use Rattle.az_desk.specs.Desk.{Seen, said_more}
+use Rattle.std.specs.Result.{IsErrAnd}
+use Rattle.az_desk.specs.Desk.{Seen}
 use Rattle.session_state.specs.Endings.{Ending}
 use Rattle.session_state.specs.Session.{Session, Carried}
 use Rattle.session_state.specs.declared.stop.Stop.{Stop}
 use Rattle.command_listing.specs.Commands.{Commands}
-use Rattle.command_listing.specs.Listing.{said_of, StopsAt, Runs}
+use Rattle.command_listing.specs.Listing.{told_of, StopsAt, Runs}
 use Rattle.command_listing.specs.Turns.{EndsTurn}
 
 nothing_left : {A : Type 0} (xs : List A) → length xs ≡ 0 → xs ≡ []
 nothing_left [] h = refl
 nothing_left (x ∷ xs) h = absurd (omega arith)
+
+-- a stop that is handed on
+pub handed_on : (ending : Ending) (stop : Stop) → IsErrAnd ending (λ e. e ≡ stop) → ending ≡ Err stop
+handed_on (Ok _) stop h = absurd h
+handed_on (Err fault) stop h = ap Err h
 
 module _ {C : Type 0} (commands : Commands C) (all : List C) (start : Seen) where
   -- how the rest ends is how all end
@@ -26,7 +32,7 @@ module _ {C : Type 0} (commands : Commands C) (all : List C) (start : Seen) wher
       pub one_more : (after : Session) (new : Seen) → EndsTurn commands (i + 1) command session seen after (Ok tt) new → RunsRest (i + 1) after new
       one_more after new (done, taken, leaves, said) = λ ending last h.
           let at_session : Runs commands (i + 1 + 1) (drop (i + 1) all) done.session new ending last = subst (λ (s : Session). Runs commands (i + 1 + 1) (drop (i + 1) all) s new ending last) leaves h in
-          let at_seen : Runs commands (i + 1 + 1) (drop (i + 1) all) done.session (said_more (said_of commands (i + 1) command done) seen) ending last =
+          let at_seen : Runs commands (i + 1 + 1) (drop (i + 1) all) done.session (told_of commands (i + 1) command session done seen) ending last =
           subst (λ (s : Seen). Runs commands (i + 1 + 1) (drop (i + 1) all) done.session s ending last) said at_session in
           so_far ending last (subst (λ (cs : List C). Runs commands (i + 1) cs session seen ending last) (sym left) (inr (done, taken, at_seen)))
 

@@ -59,7 +59,7 @@ fn turn<C: Command, D: Desk>(
     session: &mut Session,
 ) -> Result<(), Stop>
     requires { IsSound session.old }
-    ensures answer { EndsTurn (record { word = C.word; answer = C.answer; gives = C.gives }) number command.now session.old (D.seen desk.old) session.new result (D.seen desk.new) }
+    ensures answer { EndsTurn (record { word = C.word; answer = C.answer; gives = C.gives; writes = C.writes }) number command.now session.old (D.seen desk.old) session.new result (D.seen desk.new) }
     ensures sound { IsSound session.new }
 {
     let word = command.word();
@@ -77,7 +77,7 @@ pub fn run_commands<C: Command, D: Desk>(
     desk: &mut D,
     commands: &[C],
 ) -> Result<(), Stop>
-    ensures { Runs (record { word = C.word; answer = C.answer; gives = C.gives }) 1 commands.now None (D.seen desk.old) result (D.seen desk.new) }
+    ensures { Runs (record { word = C.word; answer = C.answer; gives = C.gives; writes = C.writes }) 1 commands.now None (D.seen desk.old) result (D.seen desk.new) }
 {
     let mut session = None;
     'commands: for (index, command) in commands.iter().enumerate() {

@@ -1,5 +1,5 @@
 -- Each step is passed or refused, and not both; and those that others follow give one value.
-use Rattle.std.proofs.Common.{◌≡◌, ℕ, ◌<◌, ◌≤◌, ◌^◌, List, sym, ◌∙◌, inl, inr, arith}
+use Rattle.std.proofs.Common.{◌≡◌, ℕ, ◌≤◌, ◌^◌, List, sym, ◌∙◌, inl, inr, arith}
 use Rattle.std.specs.Prelude.{ℤ, option_map, Some, Ok, Err}
 use Rattle.std.specs.FinMap.{insert}
 use Rattle.az_lin.specs.Affine.{Union, HoldsSome}

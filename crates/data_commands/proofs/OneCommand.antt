@@ -1,24 +1,14 @@
 -- Each command is carried out or refused, and not both, and leaves one thing.
 use Rattle.std.specs.Prelude.{ℕ, ℤ, List, [], Some}
 use Rattle.std.specs.FinMap.{empty}
-use Rattle.az_ast.specs.declared.reason.Reason.TheVariants.{NoProgram}
 use Rattle.az_desk.specs.Files.{Files}
-use Rattle.session_state.proofs.Once.{IsOne, NotBoth, one_then, not_both_then, one_answer, not_both_answers, one_of_some, not_both_of_some, one_setting, not_both_setting}
-use Rattle.session_state.specs.Session.{Session, Carried, opened}
-use Rattle.session_state.specs.Settings.{Settings, set_parameter}
-use Rattle.session_state.specs.Steps.{Step, ◌>>=◌, gives}
-use Rattle.session_state.specs.declared.refusal.Refusal.TheVariants.{Command}
-use Rattle.session_state.specs.declared.session.Loaded.{Loaded}
+use Rattle.session_state.proofs.Once.{IsOne, NotBoth, one_then, not_both_then, one_answer, not_both_answers, one_opened, not_both_opened, one_setting, not_both_setting}
+use Rattle.session_state.specs.Session.{Session}
+use Rattle.session_state.specs.Settings.{set_parameter}
+use Rattle.session_state.specs.Steps.{◌>>=◌, gives}
 use Rattle.data_commands.proofs.Once.{one_read, not_both_read}
 use Rattle.data_commands.specs.Commands.{set_number, load_table}
 use Rattle.data_commands.specs.Tables.{read_input}
-
-module _ (session : Session) (rest : Loaded → Step Carried) where
-  one_opened : ((loaded : Loaded) → IsOne (rest loaded)) → IsOne (opened session >>= rest)
-  one_opened each = one_then (opened session) rest (one_of_some (Command NoProgram) session) each
-
-  not_both_opened : ((loaded : Loaded) → NotBoth (rest loaded)) → NotBoth (opened session >>= rest)
-  not_both_opened each = not_both_then (opened session) rest (one_of_some (Command NoProgram) session) (not_both_of_some (Command NoProgram) session) each
 
 module _ (session : Session) (name : List ℕ) (number : ℤ) where
   pub one_number : IsOne (set_number session name number)

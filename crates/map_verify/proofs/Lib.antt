@@ -3,6 +3,6 @@ mod Placed
 mod Progress
 mod Falsity
 mod Judged
-mod OneVerdict
+pub mod OneVerdict
 mod Accepted
 mod Promised

@@ -1,17 +1,13 @@
 -- The commands of scripts that set the parts of the mapping. Each leaves the rest of the mapping and of the session as it
--- was, but that other kinds take the space-time maps away.
+-- was, but that other kinds take the space-time maps away, and that what was verified is given up.
 use Rattle.std.specs.Prelude.{ℕ, ℤ, List, [], Some}
 use Rattle.script_grammar.specs.declared.command.KindText.{KindText}
 use Rattle.script_grammar.specs.declared.command.MapText.{MapText}
-use Rattle.session_state.specs.Session.{Session, Carried, opened}
+use Rattle.session_state.specs.Session.{Session, Carried, mapped, opened}
 use Rattle.session_state.specs.Steps.{Step, ◌>>=◌, gives}
 use Rattle.session_state.specs.declared.session.Loaded.{Loaded}
 use Rattle.target_map.specs.Settings.{TargetMapping}
 use Rattle.mapping_commands.specs.Parts.{kinds_set, time_set, storage_set, order_set}
-
--- another mapping in the place of the one that was there
-abbrev pub mapped : Loaded → TargetMapping → Loaded
-mapped loaded m = record loaded { mapping = m }
 
 abbrev pub leaves : Loaded → TargetMapping → Step Carried
 leaves loaded m = gives (record { session = Some (mapped loaded m); text = [] })

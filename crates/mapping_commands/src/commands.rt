@@ -8,7 +8,7 @@ ghost use Rattle.session_state.specs.Steps.{TakesAlone};
 use crate::parts::{with_kinds, with_order, with_storage, with_time};
 use az_lin::{List, Name};
 use command_script::{KindText, MapText};
-use session_state::{Session, Stop, no_program};
+use session_state::{Session, Stop, no_program, remap};
 use std::alloc::Global;
 
 /// Sets the kinds of the dimensions of time, and takes the space-time maps away.
@@ -26,7 +26,7 @@ pub fn set_dimension_kinds(
         return Err(no_program());
     };
     let mapping = with_kinds(alloc, &loaded.mapping, kinds)?;
-    loaded.mapping = mapping;
+    remap(loaded, mapping);
     Ok(List::new(alloc))
 }
 
@@ -47,7 +47,7 @@ pub fn set_space_time_map(
     };
     let program = loaded.current.program();
     let mapping = with_time(alloc, program, &loaded.mapping, variable, map)?;
-    loaded.mapping = mapping;
+    remap(loaded, mapping);
     Ok(List::new(alloc))
 }
 
@@ -78,7 +78,7 @@ pub fn set_memory_map(
         map,
         factors,
     )?;
-    loaded.mapping = mapping;
+    remap(loaded, mapping);
     Ok(List::new(alloc))
 }
 
@@ -98,6 +98,6 @@ pub fn set_statement_order(
     };
     let program = loaded.current.program();
     let mapping = with_order(alloc, program, &loaded.mapping, variables)?;
-    loaded.mapping = mapping;
+    remap(loaded, mapping);
     Ok(List::new(alloc))
 }

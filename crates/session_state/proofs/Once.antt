@@ -3,12 +3,14 @@ use Rattle.std.proofs.Common.{◌≡◌, ℕ, ◌<◌, ◌≤◌, ◌^◌, lengt
 use Rattle.std.specs.Prelude.{Result, Ok, Err, Option, Some, None, List, [], ◌∷◌, ℤ, set}
 use Rattle.az_ast.specs.System.{System}
 use Rattle.az_desk.specs.Files.{Files, content_of}
+use Rattle.session_state.specs.Session.{Session, opened}
 use Rattle.session_state.specs.Settings.{Settings, place_of, parameter, coordinate, set_parameter}
 use Rattle.session_state.specs.Texts.{text_of}
 use Rattle.session_state.specs.Steps.{Step, ◌>>=◌, answers, gives, some_or, unless, holds_or, each_in}
 use Rattle.session_state.specs.declared.refusal.Refusal.{Refusal}
 use Rattle.session_state.specs.declared.refusal.Refusal.TheVariants.{Command}
-use Rattle.az_ast.specs.declared.reason.Reason.TheVariants.{Unknown}
+use Rattle.session_state.specs.declared.session.Loaded.{Loaded}
+use Rattle.az_ast.specs.declared.reason.Reason.TheVariants.{NoProgram, Unknown}
 use Rattle.session_state.specs.declared.stop.Stop.{Stop}
 use Rattle.session_state.specs.declared.stop.Stop.TheVariants.{Refused}
 
@@ -62,6 +64,14 @@ module _ {S B : Type 0} (one : S → B → Step S) (each_one : (state : S) (item
   not_both_each apart [] state = not_both_answers (Ok state)
   not_both_each apart (item ∷ items) state =
       not_both_then (one state item) (λ more. each_in one more items) (each_one state item) (apart state item) (λ more. not_both_each apart items more)
+
+-- what is asked of a program that was read
+module _ {A : Type 0} (session : Session) (rest : Loaded → Step A) where
+  pub one_opened : ((loaded : Loaded) → IsOne (rest loaded)) → IsOne (opened session >>= rest)
+  one_opened each = one_then (opened session) rest (one_of_some (Command NoProgram) session) each
+
+  pub not_both_opened : ((loaded : Loaded) → NotBoth (rest loaded)) → NotBoth (opened session >>= rest)
+  not_both_opened each = not_both_then (opened session) rest (one_of_some (Command NoProgram) session) (not_both_of_some (Command NoProgram) session) each
 
 -- to set a parameter is one thing, or refused
 module _ (p : System) (settings : Settings) (name : List ℕ) (number : ℤ) where

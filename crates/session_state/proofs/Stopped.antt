@@ -1,8 +1,7 @@
 -- From what was said of a step that wasn't passed to what it comes from, and what follows.
 use Rattle.std.proofs.Common.{◌≡◌, ℕ, List, inl, inr, refl, sym, subst, ap, ◌∙◌, arith}
-use Rattle.std.specs.Prelude.{Ok, Err, ◌⊎◌}
-use Rattle.az_desk.specs.Desk.{Seen, Rose, SaysSome, said_more, failed}
-use Rattle.az_desk.specs.declared.call.Call.{Call}
+use Rattle.std.specs.Prelude.{Err}
+use Rattle.az_desk.specs.Desk.{Seen, Rose, SaysSome, said_more}
 use Rattle.session_state.specs.Endings.{IsLeft, IsSaid}
 use Rattle.session_state.specs.Lines.{line}
 use Rattle.session_state.specs.Steps.{Step, Takes}

@@ -2,7 +2,7 @@
 use Rattle.std.specs.Prelude.{ℕ, Result, Ok, Err}
 use Rattle.az_desk.specs.declared.call.Call.TheVariants.{Read, Write, Say}
 use Rattle.session_state.specs.declared.refusal.Refusal.{Refusal}
-use Rattle.session_state.specs.declared.refusal.Refusal.TheVariants.{Usage, Text, Shape, ProgramNo, Command, Overflow, Limited, BadTable, Cycle}
+use Rattle.session_state.specs.declared.refusal.Refusal.TheVariants.{Usage, Text, Shape, ProgramNo, Command, MappingNo, Overflow, Limited, BadTable, Certificate, Cycle}
 use Rattle.session_state.specs.declared.stop.Stop.{Stop}
 use Rattle.session_state.specs.declared.stop.Stop.TheVariants.{Refused, Fault, Memory}
 
@@ -12,9 +12,11 @@ code (Text file kind place) = 5
 code (Shape kind item) = 6
 code (ProgramNo kind variable number point) = 7
 code (Command reason) = 8
+code (MappingNo formula number point) = 9
 code (Overflow spot) = 10
 code (Limited limit) = 11
 code (BadTable input row kind) = 12
+code (Certificate spot) = 14
 code (Cycle chain names) = 15
 
 -- of a run, by how it ends

@@ -3,10 +3,12 @@ pub mod Coordinates
 pub mod Chains
 pub mod Variants
 pub mod Reasons
+pub mod FormulaNames
 pub mod Lines
 pub mod Steps
 pub mod Endings
 pub mod Texts
+pub mod Writings
 pub mod Settings
 pub mod Session
 pub mod Stopping

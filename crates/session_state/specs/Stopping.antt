@@ -1,7 +1,6 @@
 -- A step that isn't passed: what is said then, behind what says where it comes from, and what the desk shows.
-use Rattle.std.specs.Prelude.{◌≡◌, ◌⊎◌, ℕ, List, Ok, Err}
+use Rattle.std.specs.Prelude.{◌≡◌, ◌⊎◌, ℕ, List, Err}
 use Rattle.az_desk.specs.Desk.{Seen, SaysSome, failed, said_more}
-use Rattle.az_desk.specs.declared.call.Call.{Call}
 use Rattle.az_desk.specs.declared.call.Call.TheVariants.{Say}
 use Rattle.session_state.specs.Lines.{line}
 use Rattle.session_state.specs.Steps.{Step}

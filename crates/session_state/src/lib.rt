@@ -6,6 +6,7 @@
 
 mod chains;
 mod coordinates;
+mod formula_name;
 mod lines;
 mod reasons;
 mod refusal;
@@ -16,12 +17,15 @@ mod stop;
 mod stopping;
 mod texts;
 mod variants;
+mod verified;
 
+pub use formula_name::FormulaName;
 pub use lines::line;
-pub use refusal::{Refusal, Spot, TextKind};
+pub use refusal::{CertificateSpot, Refusal, Spot, TextKind};
 pub use saying::say;
-pub use session::{Loaded, Session, change, fresh, no_program, opened};
+pub use session::{Loaded, Session, change, fresh, no_program, opened, remap};
 pub use settings::{set_parameter, unset};
 pub use stop::{Stop, name, status};
 pub use stopping::say_stop;
-pub use texts::{text_of, text_stop};
+pub use texts::{text_of, text_stop, write_file};
+pub use verified::{Verified, verified_mapping};

@@ -2,13 +2,14 @@
 
 ghost use Rattle.std.specs.Prelude.{◌≡◌, IfOk, string_bytes};
 ghost use Rattle.session_state.specs.Codes.{code};
-ghost use Rattle.session_state.specs.Lines.{spot_text, row_text, refusal_text, line};
+ghost use Rattle.session_state.specs.Lines.{spot_text, row_text, certificate_text, refusal_text, line};
 
 use crate::chains::chain_text;
 use crate::coordinates::{point_text, rational_point};
+use crate::formula_name::formula_text;
 use crate::reasons::reason_text;
 use crate::variants::{check_word, limit_word, shape_word, text_word};
-use crate::{Refusal, Spot};
+use crate::{CertificateSpot, Refusal, Spot};
 use std::alloc::{AllocError, Global};
 use table_data::RowKind;
 
@@ -26,9 +27,11 @@ impl Refusal {
             Refusal::Shape(_, _) => 6,
             Refusal::ProgramNo(_, _, _, _) => 7,
             Refusal::Command(_) => 8,
+            Refusal::MappingNo { .. } => 9,
             Refusal::Overflow(_) => 10,
             Refusal::Limited(_) => 11,
             Refusal::BadTable(_, _, _) => 12,
+            Refusal::Certificate(_) => 14,
             Refusal::Cycle { .. } => 15,
         }
     }
@@ -46,6 +49,10 @@ fn spot_text(alloc: Global, spot: &Spot) -> Result<String, AllocError>
             let word = check_word(*kind);
             let variable = variable.as_str();
             format!(in alloc; "check {word} {variable} case {case_no}")
+        }
+        Spot::Mapping { formula, case_no } => {
+            let formula = formula_text(alloc, formula)?;
+            format!(in alloc; "mapping {formula} case {case_no}")
         }
         Spot::Invert => String::from_str(alloc, "invert"),
         Spot::Scan => String::from_str(alloc, "scan"),
@@ -71,6 +78,28 @@ fn row_text(alloc: Global, kind: &RowKind) -> Result<String, AllocError>
     }
 }
 
+/// What is wrong with a certificate.
+fn certificate_text(alloc: Global, spot: &CertificateSpot) -> Result<String, AllocError>
+    ensures { IfOk result (λ text. string_bytes text ≡ certificate_text spot.now) }
+{
+    match spot {
+        CertificateSpot::Line(number) => format!(in alloc; "line {number}"),
+        CertificateSpot::Step {
+            formula,
+            case_no,
+            step,
+        } => {
+            let formula = formula_text(alloc, formula)?;
+            format!(in alloc; "{formula} case {case_no} step {step}")
+        }
+        CertificateSpot::Missing { formula, case_no } => {
+            let formula = formula_text(alloc, formula)?;
+            format!(in alloc; "{formula} case {case_no} missing")
+        }
+        CertificateSpot::Extra => String::from_str(alloc, "extra"),
+    }
+}
+
 fn refusal_text(alloc: Global, refusal: &Refusal) -> Result<String, AllocError>
     ensures { IfOk result (λ text. string_bytes text ≡ refusal_text refusal.now) }
 {
@@ -92,6 +121,15 @@ fn refusal_text(alloc: Global, refusal: &Refusal) -> Result<String, AllocError>
             format!(in alloc; "ProgramNo {word} {variable} case {case_no} at {point}")
         }
         Refusal::Command(reason) => reason_text(alloc, reason),
+        Refusal::MappingNo {
+            formula,
+            case_no,
+            point,
+        } => {
+            let formula = formula_text(alloc, formula)?;
+            let point = rational_point(alloc, point)?;
+            format!(in alloc; "MappingNo {formula} case {case_no} at {point}")
+        }
         Refusal::Overflow(spot) => {
             let spot = spot_text(alloc, spot)?;
             format!(in alloc; "Overflow {spot}")
@@ -104,6 +142,10 @@ fn refusal_text(alloc: Global, refusal: &Refusal) -> Result<String, AllocError>
             let input = input.as_str();
             let kind = row_text(alloc, kind)?;
             format!(in alloc; "Data {input} row {row} {kind}")
+        }
+        Refusal::Certificate(spot) => {
+            let spot = certificate_text(alloc, spot)?;
+            format!(in alloc; "Certificate {spot}")
         }
         Refusal::Cycle { chain, names } => {
             let chain = chain_text(alloc, names.as_slice(), chain.as_slice())?;

@@ -1,5 +1,6 @@
 //! Why a run or a command is refused.
 
+use crate::FormulaName;
 use az_ast::{Reason, ShapeKind};
 use az_lin::{Limit, List, Name, RatPoint};
 use domain_check::CheckKind;
@@ -23,6 +24,11 @@ pub enum Spot {
         variable: Name,
         case_no: u32,
     },
+    /// In deciding this case of a formula of the mapping.
+    Mapping {
+        formula: FormulaName,
+        case_no: u32,
+    },
     /// In inverting a map.
     Invert,
     /// In scanning a domain.
@@ -33,6 +39,26 @@ pub enum Spot {
     Schedule,
     /// In projecting a reduction's domain.
     Project,
+}
+
+/// What is wrong with a certificate.
+#[derive(Debug, Drop)]
+pub enum CertificateSpot {
+    /// The first line outside the grammar, counted from 1.
+    Line(u64),
+    /// The first step of a derivation that isn't valid, counted from 0, or the number of steps.
+    Step {
+        formula: FormulaName,
+        case_no: u32,
+        step: u64,
+    },
+    /// The case has no derivation.
+    Missing {
+        formula: FormulaName,
+        case_no: u32,
+    },
+    /// Something is left over.
+    Extra,
 }
 
 /// A run or command that is refused changes nothing but what is said of it.
@@ -49,11 +75,19 @@ pub enum Refusal {
     ProgramNo(CheckKind, Name, u32, RatPoint),
     /// A reason of the command's own.
     Command(Reason),
+    /// The formula of the mapping, and the number of its first case that isn't refuted, with a point that
+    /// is open for it.
+    MappingNo {
+        formula: FormulaName,
+        case_no: u32,
+        point: RatPoint,
+    },
     Overflow(Spot),
     /// The count that was exceeded.
     Limited(Limit),
     /// The input, the number of the row in its text, from 1 and 0 for a missing one, and what is wrong.
     BadTable(Name, u64, RowKind),
+    Certificate(CertificateSpot),
     /// A closed chain of points, and the names of the program's variables by their numbers.
     Cycle {
         chain: List<PointName>,

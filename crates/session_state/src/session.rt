@@ -2,12 +2,13 @@
 
 ghost use Rattle.std.specs.Prelude.{◌≡◌, Some, IfOk, IfErr};
 ghost use Rattle.az_ast.specs.declared.reason.Reason.TheVariants.{NoProgram};
-ghost use Rattle.session_state.specs.Session.{IsOfProgram, IsSound, changed, fresh, opened, lent};
+ghost use Rattle.session_state.specs.Session.{IsOfProgram, IsSound, changed, fresh, mapped, opened, lent};
 ghost use Rattle.session_state.specs.Steps.{TakesAlone};
 ghost use Rattle.session_state.specs.declared.refusal.Refusal.TheVariants.{Command};
 ghost use Rattle.session_state.specs.declared.stop.Stop.TheVariants.{Refused, Memory};
+ghost use Rattle.target_map.specs.Settings.{Fits};
 
-use crate::{Refusal, Stop, unset};
+use crate::{Refusal, Stop, Verified, unset};
 use az_ast::{Checked, Inputs, Reason};
 use az_lin::List;
 use std::alloc::Global;
@@ -26,6 +27,8 @@ pub struct Loaded {
     pub inputs: Inputs,
     /// When the instances of the current program are carried out, and where their values are kept.
     pub mapping: Mapping,
+    /// The last yes of a verification, if neither program nor mapping was changed since.
+    pub verified: Option<Verified>,
 }
 
 /// Nothing before a program is read.
@@ -47,6 +50,7 @@ pub fn fresh(alloc: Global, program: Checked) -> Result<Loaded, Stop>
         settings,
         inputs: Inputs::new(alloc),
         mapping: Mapping::new(alloc),
+        verified: None,
     })
 }
 
@@ -57,6 +61,16 @@ pub fn change(alloc: Global, loaded: &mut Loaded, program: Checked)
 {
     loaded.current = program;
     loaded.mapping = Mapping::new(alloc);
+    loaded.verified = None;
+}
+
+/// Puts another mapping in the place of the current one.
+pub fn remap(loaded: &mut Loaded, mapping: Mapping)
+    ensures value { loaded.new ≡ mapped loaded.old mapping }
+    ensures sound { Fits loaded.old.current mapping → IsOfProgram loaded.old → IsOfProgram loaded.new }
+{
+    loaded.mapping = mapping;
+    loaded.verified = None;
 }
 
 /// Why every command but the first stops where no program was read.

@@ -6,5 +6,5 @@ abbrev pub invariant-commands : goal.invariant-commands
 invariant-commands g l = record {
   sound : IsSound l.session;
   runs :
-      RunsRest (record { word = g.C.Command.word; answer = g.C.Command.answer; gives = g.C.Command.gives }) l.commands (g.D.Desk.seen l.fn.desk) l.index l.session (g.D.Desk.seen l.desk);
+      RunsRest (record { word = g.C.Command.word; answer = g.C.Command.answer; gives = g.C.Command.gives; writes = g.C.Command.writes }) l.commands (g.D.Desk.seen l.fn.desk) l.index l.session (g.D.Desk.seen l.desk);
 }

@@ -1,10 +1,10 @@
-use Rattle.std.proofs.Common.{◌≡◌, List, ℕ, rules, sym, subst}
+use Rattle.std.proofs.Common.{◌≡◌, rules, sym, subst}
 use Rattle.std.specs.Prelude.{Some, Ok, Err}
 use Rattle.az_ast.specs.System.{System}
 use Rattle.session_state.specs.Session.{Session}
 use Rattle.session_state.specs.Steps.{TakesAlone}
 use Rattle.session_state.specs.declared.session.Loaded.{Loaded}
-use Rattle.mapping_commands.specs.Commands.{mapped, set_space_time_map}
+use Rattle.mapping_commands.specs.Commands.{set_space_time_map}
 use Rattle.mapping_commands.specs.Parts.{time_set}
 use Rattle.mapping_commands.proofs.Setting.{part_stops, part_left}
 use Rattle.mapping_commands.proofs.commands.set_space_time_map.Goals as goal
@@ -21,6 +21,7 @@ pub returns-clause-answer : goal.returns-clause-answer
 returns-clause-answer c =
     let m = c.in_ok-mapping.mapping in
     let there : c.args.session.now ≡ Some c.in-Some.loaded = search rules in
-    subst (λ (s : Session). TakesAlone (set_space_time_map s c.args.variable.now c.args.map.now) (Ok (record { session = Some (mapped c.in-Some.loaded m); text = c.new.result }))) (sym there)
-    (subst (λ (text : List ℕ). TakesAlone (set_space_time_map (Some c.in-Some.loaded) c.args.variable.now c.args.map.now) (Ok (record { session = Some (mapped c.in-Some.loaded m); text = text }))) (sym c.new.ensures)
-    (part_left c.in-Some.loaded (λ (loaded : Loaded). time_set loaded.current loaded.mapping c.args.variable.now c.args.map.now) m (subst (λ (p : System). TakesAlone (time_set p c.in-Some.loaded.mapping c.args.variable.now c.args.map.now) (Ok m)) c.program-program.ensures.value c.in_ok-mapping.ensures.answer)))
+    subst (λ (s : Session). TakesAlone (set_space_time_map s c.args.variable.now c.args.map.now) (Ok (record { session = Some c.remap.new.loaded; text = c.new.result }))) (sym there)
+    (part_left c.in-Some.loaded (λ (loaded : Loaded). time_set loaded.current loaded.mapping c.args.variable.now c.args.map.now) m c.remap.new.loaded c.new.result
+    (subst (λ (p : System). TakesAlone (time_set p c.in-Some.loaded.mapping c.args.variable.now c.args.map.now) (Ok m)) c.program-program.ensures.value c.in_ok-mapping.ensures.answer)
+    c.remap.ensures.value c.new.ensures)

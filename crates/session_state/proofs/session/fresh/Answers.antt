@@ -12,4 +12,5 @@ returns-clause-sound c =
           subst (λ (p : System). AreSettings p c.from_vec-settings.result) (sym c.in-Ok.ensures.ok)
           (subst (AreSettings c.args.program) (sym settings_are) (unset_are c.args.program));
       mapping = c.new-2.ensures.fits c.in-Ok.current;
+      verified = tt;
     }

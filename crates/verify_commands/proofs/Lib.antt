@@ -1,0 +1,4 @@
+pub mod Named
+pub mod Stops
+pub mod Writing
+pub mod Once

@@ -1,0 +1,2 @@
+pub mod Verification
+pub mod Commands

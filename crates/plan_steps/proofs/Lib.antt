@@ -1,0 +1,9 @@
+pub mod Uniqueness
+pub mod Layouts
+pub mod Forms
+pub mod Cases
+pub mod Folds
+pub mod Failures
+pub mod Machines
+pub mod Expressions
+pub mod Settling

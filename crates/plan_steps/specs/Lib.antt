@@ -1,0 +1,4 @@
+pub mod Layouts
+pub mod Runs
+pub mod Settled
+pub mod Inner

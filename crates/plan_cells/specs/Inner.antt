@@ -1,0 +1,2 @@
+-- Words about numbering on its way. No public clause cites them.
+pub mod Passing

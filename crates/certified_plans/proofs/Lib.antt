@@ -1,0 +1,13 @@
+pub mod ListLemmas
+pub mod ReachedReads
+pub mod Instances
+pub mod Finds
+pub mod CellLemmas
+pub mod Orders
+pub mod OutputWriters
+pub mod Rank
+pub mod Meanings
+pub mod SoundPlan
+pub mod OutputTables
+pub mod LawProofs
+pub mod ExampleProofs

@@ -1,0 +1,3 @@
+pub mod SideValues
+pub mod Chains
+pub mod Examples

@@ -1,0 +1,9 @@
+pub mod Held
+pub mod NormalMeaning
+pub mod NormalParts
+pub mod Outlining
+pub mod Picked
+pub mod PiecesSame
+pub mod PiecesSuit
+pub mod PutTogether
+pub mod Splits

@@ -1,0 +1,4 @@
+pub mod Laws
+pub mod Normal
+pub mod Outlines
+pub mod Pieces

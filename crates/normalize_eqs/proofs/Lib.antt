@@ -1,6 +1,10 @@
+pub mod FreshLocals
+pub mod FreshNames
 pub mod Held
+pub mod NormalFine
 pub mod NormalMeaning
 pub mod NormalParts
+pub mod OutlinesSuit
 pub mod Outlining
 pub mod Picked
 pub mod PiecesSame

@@ -116,36 +116,36 @@ module _ (p q : System) where
 
   -- one equation after others
   module _ (d : Definition) (rest : List Definition) (names : List (List ℕ)) (next : ℕ) where
-    abbrev made : OutlinedPieces
+    abbrev pub made : OutlinedPieces
     made = outlined_at next d.0 d.1
 
-    abbrev locals : List Variable
+    abbrev pub locals : List Variable
     locals = fresh_variables names (name_of p d.0) made.fresh
 
-    abbrev others : Normal
+    abbrev pub others : Normal
     others = normal p (names ++ map (λ (v : Variable). v.name) locals) (next + length made.fresh) rest
 
-    abbrev Here : List Variable → ℕ → Type 0
+    abbrev pub Here : List Variable → ℕ → Type 0
     Here vs m = (i : ℕ) → slice_get q.variables (m + i) ≡ slice_get vs i
 
-    abbrev Bodies : List Definition → ℕ → Type 0
+    abbrev pub Bodies : List Definition → ℕ → Type 0
     Bodies ds m = (i : ℕ) → body_of q.equations (m + i) ≡ defined_as ds (m + i)
 
     apart : (i : ℕ) → next + length made.fresh + i ≡ next + (length made.fresh + i)
     apart i = omega arith
 
-    further : Here (locals ++ others.locals) next → Here others.locals (next + length made.fresh)
+    pub further : Here (locals ++ others.locals) next → Here others.locals (next + length made.fresh)
     further here i =
         ap (λ m. slice_get q.variables m) (apart i) ∙ (here (length made.fresh + i) ∙ past-variables made.fresh names (name_of p d.0) others.locals i)
 
-    after : Bodies (fresh_definitions next made.fresh ++ others.added) next → Bodies others.added (next + length made.fresh)
+    pub after : Bodies (fresh_definitions next made.fresh ++ others.added) next → Bodies others.added (next + length made.fresh)
     after bodies i =
         ap (λ m. body_of q.equations m) (apart i)
         ∙ (bodies (length made.fresh + i)
         ∙ (past-definitions made.fresh next others.added (next + (length made.fresh + i)) (omega arith)
         ∙ ap (λ m. defined_as others.added m) (sym (apart i))))
 
-    first : Here (locals ++ others.locals) next → Bodies (fresh_definitions next made.fresh ++ others.added) next → AreDeclared q next made.fresh
+    pub first : Here (locals ++ others.locals) next → Bodies (fresh_definitions next made.fresh ++ others.added) next → AreDeclared q next made.fresh
     first here bodies = declared-fresh q made.fresh names (name_of p d.0) next others.locals others.added here bodies
 
     abbrev Kept : List Definition
@@ -213,7 +213,7 @@ module _ (p : System) (program : IsProgram p) where
   kept-below : AllByRecursion (λ (d : Definition). d.0 < count) result.kept
   kept-below = kept-numbers p q (λ x. x < count) (definitions p) names count numbers-below
 
-  bodies-there : (i : ℕ) → body_of q.equations (count + i) ≡ defined_as result.added (count + i)
+  pub bodies-there : (i : ℕ) → body_of q.equations (count + i) ≡ defined_as result.added (count + i)
   bodies-there i =
       body_of-defining (result.kept ++ result.added) (count + i)
       ∙ defined-past result.kept result.added (count + i)

@@ -4,7 +4,7 @@ use Rattle.std.proofs.Common.{◌≡◌, ◌≢◌, ◌⊎◌, ℕ, ◌+◌, Lis
 use Rattle.std.specs.Prelude.{Option, Some, None, IfSome, option_map, Ok, Err}
 use Rattle.std.proofs.lemmas.List.Elements.{All-head, All-tail}
 use Rattle.az_desk.specs.Desk.{Seen, Rose, said_more}
-use Rattle.az_desk.specs.Files.{Files, file_of, with_file}
+use Rattle.az_desk.specs.Files.{Files, with_file}
 use Rattle.az_desk.proofs.DeskLemmas.{writes_leave_others}
 use Rattle.session_state.specs.Codes.{status}
 use Rattle.session_state.specs.Endings.{Ending}
@@ -17,6 +17,7 @@ use Rattle.session_state.proofs.Once.{IsOne, NotBoth}
 use Rattle.session_state.proofs.Stopped.{same_by_stop, stops_by_fault, same_by_text, text_by_fault}
 use Rattle.command_listing.specs.Commands.{Commands, front}
 use Rattle.command_listing.specs.Listing.{FailsToWrite, said_of, left_by, told_of, StopsAt, Runs, AreCarriedOut, AreUnrefused}
+use Rattle.command_listing.specs.Standing.{stands_under}
 
 -- what the desk shows with a file written
 written_files : (file : Option FileText) (old : Seen) → (with_written file old).files ≡ files_after file old.files
@@ -35,10 +36,6 @@ still_told (Some file) files = (with_file file.name file.bytes files, refl)
 rose_by_writing : (file : Option FileText) (step : Step Carried) (old new : Seen) (stop : Stop) → FailsToWrite file step old stop new → Rose old.faults new.faults
 rose_by_writing None step old new stop h = absurd h
 rose_by_writing (Some file) step old new stop (is, taken, (kept, left)) = rw left (omega arith)
-
--- what stands under a name, where the desk tells it
-abbrev pub stands_under : List ℕ → Option Files → Option (Option (List ℕ))
-stands_under name files = option_map (λ told. file_of told name) files
 
 -- a file that isn't the one that is written stands as before
 module _ (name : List ℕ) where
@@ -80,23 +77,28 @@ module _ {C : Type 0} (commands : Commands C) where
         other_stands (number + 1) rest done.session (told_of commands number command session done old) new ending (All-tail LeavesFile command rest leave) runs
         ∙ other_written name (commands.writes command session) old (All-head LeavesFile command rest leave session)
 
+  -- a command that never writes
+  abbrev pub WritesNone : C → Type 0
+  WritesNone command = (session : Session) → commands.writes command session ≡ None
+
+  unwritten : (command : C) (session : Session) (old : Seen) → WritesNone command → left_by commands command session old ≡ old
+  unwritten command session old none = ap (λ (file : Option FileText). with_written file old) (none session)
+
+  same_at : (number : ℕ) (command : C) (session : Session) (old new : Seen) (stop : Stop) → WritesNone command → StopsAt commands number command session old stop new → new.files ≡ old.files
+  same_at number command session old new stop none (inl h) = same_by_stop (front number (commands.word command)) (commands.gives command old.files session) old new stop h
+  same_at number command session old new stop none (inr (inl h)) =
+      absurd (subst (λ (file : Option FileText). FailsToWrite file (commands.gives command old.files session) old stop new) (none session) h)
+  same_at number command session old new stop none (inr (inr (done, taken, said))) =
+      same_by_text (said_of commands number command done) (left_by commands command session old) new stop said ∙ ap (λ (s : Seen). s.files) (unwritten command session old none)
+
   -- where no command writes a file, no file changed
-  module _ (none : (command : C) (session : Session) → commands.writes command session ≡ None) where
-    unwritten : (command : C) (session : Session) (old : Seen) → left_by commands command session old ≡ old
-    unwritten command session old = ap (λ (file : Option FileText). with_written file old) (none command session)
-
-    same_at : (number : ℕ) (command : C) (session : Session) (old new : Seen) (stop : Stop) → StopsAt commands number command session old stop new → new.files ≡ old.files
-    same_at number command session old new stop (inl h) = same_by_stop (front number (commands.word command)) (commands.gives command old.files session) old new stop h
-    same_at number command session old new stop (inr (inl h)) =
-        absurd (subst (λ (file : Option FileText). FailsToWrite file (commands.gives command old.files session) old stop new) (none command session) h)
-    same_at number command session old new stop (inr (inr (done, taken, said))) =
-        same_by_text (said_of commands number command done) (left_by commands command session old) new stop said ∙ ap (λ (s : Seen). s.files) (unwritten command session old)
-
-    pub same_files : (number : ℕ) (all : List C) (session : Session) (old new : Seen) (ending : Ending) → Runs commands number all session old ending new → new.files ≡ old.files
-    same_files number [] session old new ending h = ap (λ (s : Seen). s.files) h.1
-    same_files number (command ∷ rest) session old new ending (inl (stop, is, h)) = same_at number command session old new stop h
-    same_files number (command ∷ rest) session old new ending (inr (done, taken, runs)) =
-        same_files (number + 1) rest done.session (told_of commands number command session done old) new ending runs ∙ ap (λ (s : Seen). s.files) (unwritten command session old)
+  pub same_files : (number : ℕ) (all : List C) (session : Session) (old new : Seen) (ending : Ending) → All WritesNone all → Runs commands number all session old ending new
+      → new.files ≡ old.files
+  same_files number [] session old new ending none h = ap (λ (s : Seen). s.files) h.1
+  same_files number (command ∷ rest) session old new ending none (inl (stop, is, h)) = same_at number command session old new stop (All-head WritesNone command rest none) h
+  same_files number (command ∷ rest) session old new ending none (inr (done, taken, runs)) =
+      same_files (number + 1) rest done.session (told_of commands number command session done old) new ending (All-tail WritesNone command rest none) runs
+      ∙ ap (λ (s : Seen). s.files) (unwritten command session old (All-head WritesNone command rest none))
 
   memory_at : (number : ℕ) (command : C) (session : Session) (old new : Seen) (stop : Stop) (rest : List C) → StopsAt commands number command session old stop new
       → AreUnrefused commands (command ∷ rest) old.files session → (Rose old.faults new.faults → ⊥) → stop ≡ Memory

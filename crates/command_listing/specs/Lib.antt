@@ -1,3 +1,4 @@
 pub mod Commands
 pub mod Listing
+pub mod Standing
 pub mod Turns

@@ -1,6 +1,6 @@
 //! The commands of a script, one after another.
 
-ghost use Rattle.std.specs.Prelude.{◌≡◌, ◌+◌, ◌++◌, OnOk, IfOk, string_bytes};
+ghost use Rattle.std.specs.Prelude.{◌≡◌, ◌≤◌, ◌+◌, ◌++◌, OnOk, IfOk, string_bytes};
 ghost use Rattle.command_listing.specs.Commands.{front, said};
 ghost use Rattle.command_listing.specs.Listing.{Runs};
 ghost use Rattle.command_listing.specs.Turns.{EndsTurn};
@@ -9,8 +9,10 @@ ghost use Rattle.session_state.specs.Stopping.{IsStopSaid};
 
 use crate::Command;
 use az_desk::Desk;
+use formula_refute::CaseGate;
 use session_state::{Session, Stop, say, say_stop};
 use std::alloc::{AllocError, Global};
+use std::thread::Threads;
 
 /// What stands before a command's line.
 fn front(alloc: Global, number: usize, word: &str) -> Result<String, AllocError>
@@ -51,19 +53,24 @@ fn refuse<D: Desk>(alloc: Global, desk: &mut D, number: usize, word: &str, stop:
 }
 
 /// Carries a command out and says what is said of it.
-fn turn<C: Command, D: Desk>(
+fn turn<C: Command, R: Threads + Sync, D: Desk, G: CaseGate + Sync>(
+    rt: &R,
     alloc: Global,
     desk: &mut D,
     number: usize,
     command: &C,
     session: &mut Session,
+    workers: u32,
+    gate: &G,
 ) -> Result<(), Stop>
-    requires { IsSound session.old }
+    requires sound { IsSound session.old }
+    requires some { 1 ≤ workers }
+    requires at_most { workers ≤ 64 }
     ensures answer { EndsTurn (record { word = C.word; answer = C.answer; gives = C.gives; writes = C.writes }) number command.now session.old (D.seen desk.old) session.new result (D.seen desk.new) }
     ensures sound { IsSound session.new }
 {
     let word = command.word();
-    let text = match command.carry_out(alloc, desk, session) {
+    let text = match command.carry_out(rt, alloc, desk, session, workers, gate) {
         Ok(text) => text,
         Err(stop) => return Err(refuse(alloc, desk, number, word, stop)),
     };
@@ -71,17 +78,32 @@ fn turn<C: Command, D: Desk>(
     say(alloc, desk, bytes.as_slice())
 }
 
-/// Carries the commands out in order, from nothing, until one is refused, and says the listing.
-pub fn run_commands<C: Command, D: Desk>(
+/// Carries the commands out in order, from nothing, until one is refused, and says the listing. The answer is the same
+/// for every number of workers.
+pub fn run_commands<C: Command, R: Threads + Sync, D: Desk, G: CaseGate + Sync>(
+    rt: &R,
     alloc: Global,
     desk: &mut D,
     commands: &[C],
+    workers: u32,
+    gate: &G,
 ) -> Result<(), Stop>
+    requires some { 1 ≤ workers }
+    requires at_most { workers ≤ 64 }
     ensures { Runs (record { word = C.word; answer = C.answer; gives = C.gives; writes = C.writes }) 1 commands.now None (D.seen desk.old) result (D.seen desk.new) }
 {
     let mut session = None;
     'commands: for (index, command) in commands.iter().enumerate() {
-        turn(alloc, desk, index + 1, command, &mut session)?;
+        turn(
+            rt,
+            alloc,
+            desk,
+            index + 1,
+            command,
+            &mut session,
+            workers,
+            gate,
+        )?;
     }
     Ok(())
 }

@@ -7,8 +7,8 @@ use Rattle.command_listing.proofs.listing.run_commands.Goals as goal
 pub commands-init : goal.commands-init
 commands-init g c = record { sound = tt; runs = λ ending new h. h }
 
-pub turn-requires : goal.turn-requires
-turn-requires g c = c.commands.invariant.sound
+pub turn-requires-clause-sound : goal.turn-requires-clause-sound
+turn-requires-clause-sound g c = λ κs lives. c.commands.invariant.sound
 
 pub commands-preserved : goal.commands-preserved
 commands-preserved g c = record {

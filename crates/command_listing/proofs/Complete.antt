@@ -1,9 +1,9 @@
 -- What follows of a run: which files stay as they were, and where no command is refused it is done, unless the desk fails
 -- or memory runs out.
 use Rattle.std.proofs.Common.{◌≡◌, ◌≢◌, ◌⊎◌, ℕ, ◌+◌, List, [], ◌∷◌, All, inl, inr, refl, sym, subst, ap, ◌∙◌, take, arith}
-use Rattle.std.specs.Prelude.{Option, Some, None, IfSome, option_map, Ok, Err}
+use Rattle.std.specs.Prelude.{Option, Some, None, IfSome, Ok, Err}
 use Rattle.std.proofs.lemmas.List.Elements.{All-head, All-tail}
-use Rattle.az_desk.specs.Desk.{Seen, Rose, said_more}
+use Rattle.az_desk.specs.Desk.{Seen, Rose}
 use Rattle.az_desk.specs.Files.{Files, with_file}
 use Rattle.az_desk.proofs.DeskLemmas.{writes_leave_others}
 use Rattle.session_state.specs.Codes.{status}

@@ -4,7 +4,7 @@ use Rattle.std.specs.Prelude.{None, Ok, Err}
 use Rattle.std.specs.Result.{IsErrAnd}
 use Rattle.az_desk.specs.Desk.{Seen}
 use Rattle.session_state.specs.Endings.{Ending}
-use Rattle.session_state.specs.Session.{Session, Carried}
+use Rattle.session_state.specs.Session.{Session}
 use Rattle.session_state.specs.declared.stop.Stop.{Stop}
 use Rattle.command_listing.specs.Commands.{Commands}
 use Rattle.command_listing.specs.Listing.{told_of, StopsAt, Runs}

@@ -12,8 +12,8 @@ use Rattle.session_state.specs.declared.stop.Stop.{Stop}
 use Rattle.session_state.specs.declared.stop.Stop.TheVariants.{Refused, Fault, Memory}
 use Rattle.session_state.proofs.Stopped.{stops_by}
 use Rattle.command_listing.specs.Commands.{Commands, front}
-use Rattle.command_listing.specs.Listing.{FailsToWrite, said_of, left_by, StopsAt}
-use Rattle.command_listing.specs.Turns.{EndsTurn}
+use Rattle.command_listing.specs.Listing.{FailsToWrite, said_of, StopsAt}
+use Rattle.command_listing.specs.Turns.{IsTurnSaid, EndsTurn}
 
 left_ok : (file : Option FileText) (old between : Seen) (text : List ℕ) → IsLeftWith file old (Ok text) between → between ≡ with_written file old
 left_ok None old between text same = same
@@ -42,13 +42,13 @@ module _ {C : Type 0} (commands : Commands C) (number : ℕ) (command : C) (sess
   among stop (inr h) = inr (inl h)
 
   -- it wasn't carried out
-  pub not_carried : (fault stop : Stop) → Takes (commands.gives command old.files session) (carried left (Err fault)) → IsLeftWith {A = List ℕ} (commands.writes command session) old (Err fault) between
+  not_carried : (fault stop : Stop) → Takes (commands.gives command old.files session) (carried left (Err fault)) → IsLeftWith {A = List ℕ} (commands.writes command session) old (Err fault) between
       → IsStopSaid (front number (commands.word command)) fault between stop new → StopsAt commands number command session old stop new
   not_carried fault stop taken desk said =
       among stop (stopped (front number (commands.word command)) (commands.gives command old.files session) old between new (commands.writes command session) fault stop taken desk said)
 
   -- it was, and was said, or not whole
-  pub carried_said : (text : List ℕ) (ending : Ending) → Takes (commands.gives command old.files session) (carried left (Ok text)) → IsLeftWith (commands.writes command session) old (Ok text) between
+  carried_said : (text : List ℕ) (ending : Ending) → Takes (commands.gives command old.files session) (carried left (Ok text)) → IsLeftWith (commands.writes command session) old (Ok text) between
       → IsSaid (said_of commands number command (record { session = left; text = text })) between ending new → EndsTurn commands number command session old left ending new
   carried_said text (Ok _) taken desk said =
       let done : Carried = record { session = left; text = text } in
@@ -57,7 +57,10 @@ module _ {C : Type 0} (commands : Commands C) (number : ℕ) (command : C) (sess
       let done : Carried = record { session = left; text = text } in
       inr (inr (done, taken, subst (λ (s : Seen). IsSaid (said_of commands number command done) s (Err stop) new) (left_ok (commands.writes command session) old between text desk) said))
 
-  -- memory ran out before it was said
-  pub unsaid : (text : List ℕ) → Takes (commands.gives command old.files session) (carried left (Ok text)) → IsLeftWith (commands.writes command session) old (Ok text) between → new ≡ between
-      → StopsAt commands number command session old Memory new
-  unsaid text taken desk same = inr (inr (record { session = left; text = text }, taken, same ∙ left_ok (commands.writes command session) old between text desk))
+  -- a turn, from what the command answered and what was said of it
+  pub ends_turn : (result : Result (List ℕ) Stop) (ending : Ending) → Takes (commands.gives command old.files session) (carried left result)
+      → IsLeftWith (commands.writes command session) old result between → IsTurnSaid number (commands.word command) (commands.answer command) result between ending new
+      → EndsTurn commands number command session old left ending new
+  ends_turn (Ok text) ending taken desk said = carried_said text ending taken desk said
+  ends_turn (Err fault) ending taken desk (stop, is, said) =
+      subst (λ (e : Ending). EndsTurn commands number command session old left e new) (sym is) (not_carried fault stop taken desk said)

@@ -1,10 +1,9 @@
-//! The listing of a script: its commands are carried out one after another, and what is said of each.
+//! The listing of a script: what is said of each of its commands, one after another.
 //!
-//! `specs/Listing.antt` says it for all commands; which there are is the matter of the crates above.
+//! `specs/Listing.antt` says it for all commands; which there are, and how each is carried out, is the matter of the
+//! crates above.
 #![tactic(auto)]
 
-mod command;
 mod listing;
 
-pub use command::Command;
-pub use listing::run_commands;
+pub use listing::end_turn;

@@ -1,18 +1,14 @@
-//! The commands of a script, one after another.
+//! What is said of a command.
 
-ghost use Rattle.std.specs.Prelude.{◌≡◌, ◌≤◌, ◌+◌, ◌++◌, OnOk, IfOk, string_bytes};
+ghost use Rattle.std.specs.Prelude.{◌≡◌, IfOk, string_bytes};
 ghost use Rattle.command_listing.specs.Commands.{front, said};
-ghost use Rattle.command_listing.specs.Listing.{Runs};
-ghost use Rattle.command_listing.specs.Turns.{EndsTurn};
-ghost use Rattle.session_state.specs.Session.{IsSound};
+ghost use Rattle.command_listing.specs.Turns.{IsTurnSaid};
 ghost use Rattle.session_state.specs.Stopping.{IsStopSaid};
 
-use crate::Command;
 use az_desk::Desk;
-use formula_refute::CaseGate;
-use session_state::{Session, Stop, say, say_stop};
+use az_lin::List;
+use session_state::{Stop, say, say_stop};
 use std::alloc::{AllocError, Global};
-use std::thread::Threads;
 
 /// What stands before a command's line.
 fn front(alloc: Global, number: usize, word: &str) -> Result<String, AllocError>
@@ -52,58 +48,21 @@ fn refuse<D: Desk>(alloc: Global, desk: &mut D, number: usize, word: &str, stop:
     say_stop(alloc, desk, front.as_str(), Stop::Refused(refusal))
 }
 
-/// Carries a command out and says what is said of it.
-fn turn<C: Command, R: Threads + Sync, D: Desk, G: CaseGate + Sync>(
-    rt: &R,
+/// Says what is said of a command, by what it answered: its line and text, or the line of its refusal.
+pub fn end_turn<D: Desk>(
     alloc: Global,
     desk: &mut D,
     number: usize,
-    command: &C,
-    session: &mut Session,
-    workers: u32,
-    gate: &G,
+    word: &str,
+    answer: &str,
+    carried: Result<List<u8>, Stop>,
 ) -> Result<(), Stop>
-    requires sound { IsSound session.old }
-    requires some { 1 ≤ workers }
-    requires at_most { workers ≤ 64 }
-    ensures answer { EndsTurn (record { word = C.word; answer = C.answer; gives = C.gives; writes = C.writes }) number command.now session.old (D.seen desk.old) session.new result (D.seen desk.new) }
-    ensures sound { IsSound session.new }
+    ensures { IsTurnSaid number word.now answer.now carried (D.seen desk.old) result (D.seen desk.new) }
 {
-    let word = command.word();
-    let text = match command.carry_out(rt, alloc, desk, session, workers, gate) {
+    let text = match carried {
         Ok(text) => text,
         Err(stop) => return Err(refuse(alloc, desk, number, word, stop)),
     };
-    let bytes = said(alloc, number, word, command.answer(), text.as_slice())?;
+    let bytes = said(alloc, number, word, answer, text.as_slice())?;
     say(alloc, desk, bytes.as_slice())
-}
-
-/// Carries the commands out in order, from nothing, until one is refused, and says the listing. The answer is the same
-/// for every number of workers.
-pub fn run_commands<C: Command, R: Threads + Sync, D: Desk, G: CaseGate + Sync>(
-    rt: &R,
-    alloc: Global,
-    desk: &mut D,
-    commands: &[C],
-    workers: u32,
-    gate: &G,
-) -> Result<(), Stop>
-    requires some { 1 ≤ workers }
-    requires at_most { workers ≤ 64 }
-    ensures { Runs (record { word = C.word; answer = C.answer; gives = C.gives; writes = C.writes }) 1 commands.now None (D.seen desk.old) result (D.seen desk.new) }
-{
-    let mut session = None;
-    'commands: for (index, command) in commands.iter().enumerate() {
-        turn(
-            rt,
-            alloc,
-            desk,
-            index + 1,
-            command,
-            &mut session,
-            workers,
-            gate,
-        )?;
-    }
-    Ok(())
 }

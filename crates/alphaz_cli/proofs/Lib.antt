@@ -1,4 +1,8 @@
+pub mod AllKnown
 pub mod BoundKept
-pub mod CutLines
 pub mod Evaluating
 pub mod OneRun
+pub mod OneTask
+pub mod Ran
+pub mod CommandsLeft
+pub mod Scripts

@@ -1,11 +1,10 @@
--- A run is carried out or refused, and not both.
-use Rattle.std.proofs.Common.{◌≡◌, ℕ, List, [], ◌∷◌}
+-- A program is evaluated or refused, and not both.
+use Rattle.std.proofs.Common.{ℕ, List}
 use Rattle.std.specs.Prelude.{Some}
 use Rattle.std.specs.FinMap.{empty}
 use Rattle.az_ast.specs.System.{System}
 use Rattle.az_ast.specs.Tables.{Tables}
 use Rattle.az_desk.specs.Files.{Files}
-use Rattle.command_words.proofs.OneEvaluation.{one_evaluation}
 use Rattle.command_words.specs.declared.binding.Binding.{Binding}
 use Rattle.command_words.specs.declared.binding.Binding.TheVariants.{Parameter, Table}
 use Rattle.command_words.specs.declared.evaluation.Evaluation.{Evaluation}
@@ -15,15 +14,9 @@ use Rattle.session_state.proofs.Once.{IsOne, NotBoth, one_then, not_both_then, o
 use Rattle.session_state.specs.Settings.{Settings, unset}
 use Rattle.session_state.specs.Steps.{◌>>=◌, each_in}
 use Rattle.alphaz_cli.specs.Bound.{set_bound, read_bound}
-use Rattle.alphaz_cli.specs.Evaluation.{asked, evaluated, evaluation, run}
+use Rattle.alphaz_cli.specs.Evaluation.{evaluated, evaluation}
 use Rattle.program_commands.proofs.Once.{one_read, not_both_read}
 use Rattle.program_commands.specs.Programs.{read_alphabets}
-
-one_asked : (words : List (List ℕ)) → IsOne (asked words)
-one_asked words e f p q = one_evaluation words e f p q
-
-not_both_asked : (words : List (List ℕ)) → NotBoth (asked words)
-not_both_asked words e refusal p q = q.1 e p
 
 module _ (p : System) where
   one_bound : (settings : Settings) (binding : Binding) → IsOne (set_bound p settings binding)
@@ -53,7 +46,6 @@ not_both_evaluated told e p =
     (not_both_each (read_bound p (Some told) settings) (one_table p told settings) (not_both_table p told settings) e.bindings empty) (λ tables.
     not_both_rows p settings tables))
 
-pub not_both_run : (words : List (List ℕ)) (told : Files) → NotBoth (run words (Some told))
-not_both_run words told =
-    not_both_then (asked words) (evaluation (Some told)) (one_asked words) (not_both_asked words) (λ e.
-    not_both_then (read_alphabets (Some told) e.program) (evaluated (Some told) e) (one_read told e.program) (not_both_read told e.program) (not_both_evaluated told e))
+pub not_both_evaluation : (told : Files) (e : Evaluation) → NotBoth (evaluation (Some told) e)
+not_both_evaluation told e =
+    not_both_then (read_alphabets (Some told) e.program) (evaluated (Some told) e) (one_read told e.program) (not_both_read told e.program) (not_both_evaluated told e)

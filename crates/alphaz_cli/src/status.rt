@@ -86,7 +86,7 @@ fn outcome_of_refusal(refusal: Refusal) -> Outcome
 }
 
 /// The answer of a run that ended so.
-pub fn answer_of(ending: Result<(), Stop>) -> Outcome
+pub(crate) fn answer_of(ending: Result<(), Stop>) -> Outcome
     ensures { result ≡ outcome ending }
 {
     match ending {

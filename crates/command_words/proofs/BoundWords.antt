@@ -2,11 +2,9 @@
 use Rattle.std.proofs.Common.{ℕ, zero, suc, ◌<◌, List, [], ◌∷◌, ◌++◌, length, get_or, take, arith}
 use Rattle.std.specs.Borrow.{Bor}
 use Rattle.std.specs.List.{AllZip}
-use Rattle.std.specs.Prelude.{map, Option, Some, None, Result, Ok, Err, IfOk, IfSome, IfNone}
-use Rattle.std.specs.declared.alloc.AllocError.{AllocError}
+use Rattle.std.specs.Prelude.{map}
 use Rattle.command_words.specs.Bindings.{IsBinding}
 use Rattle.command_words.specs.declared.binding.Binding.{Binding}
-use Rattle.command_words.specs.declared.evaluation.Evaluation.{Evaluation}
 
 -- what the words are, without where they lie
 abbrev pub told : List (Bor (List ℕ)) → List (List ℕ)
@@ -30,13 +28,3 @@ one_more (word ∷ words) (suc i) d [] b within all is = absurd all
 one_more (word ∷ words) (suc i) d (a ∷ bindings) b within all is = (all.0, one_more words i d bindings b (omega arith) all.1 is)
 
 -- what follows from each answer, of a call that may find nothing
-pub found_also : (r : Result (Option Evaluation) AllocError) (P Q : Evaluation → Type 0) → ((e : Evaluation) → P e → Q e)
-    → IfOk r (λ o. IfSome o P) → IfOk r (λ o. IfSome o Q)
-found_also (Ok (Some e)) P Q more h = more e h
-found_also (Ok None) P Q more h = tt
-found_also (Err fault) P Q more h = tt
-
-pub none_also : (r : Result (Option Evaluation) AllocError) (P Q : Type 0) → (P → Q) → IfOk r (λ o. IfNone o P) → IfOk r (λ o. IfNone o Q)
-none_also (Ok (Some e)) P Q more h = tt
-none_also (Ok None) P Q more h = more h
-none_also (Err fault) P Q more h = tt

@@ -7,5 +7,4 @@ pub mod LineTurns
 pub mod Lines
 pub mod OneEvaluation
 pub mod OneRequest
-pub mod PlainWords
 pub mod WordClasses

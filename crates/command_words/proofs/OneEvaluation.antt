@@ -1,12 +1,11 @@
--- Words ask for one evaluation only: each binding can be read in one way.
-use Rattle.std.proofs.Common.{◌≡◌, ℕ, List, [], ◌∷◌, ◌++◌, true, false, refl, sym, ap, subst, ◌∙◌, inl, inr, codes, arith}
+-- Plain words ask for one evaluation only: each binding can be read in one way.
+use Rattle.std.proofs.Common.{◌≡◌, ℕ, List, [], ◌∷◌, ◌++◌, true, false, refl, sym, ap, subst, ◌∙◌, inl, inr, arith}
 use Rattle.std.specs.List.{AllZip}
-use Rattle.std.specs.Prelude.{ℤ, Some}
+use Rattle.std.specs.Prelude.{ℤ}
 use Rattle.az_text.specs.Tokens.{AllAre, IsNumber, is_word_byte}
 use Rattle.command_words.proofs.Cuts.{word_bytes}
 use Rattle.command_words.specs.Bindings.{IsMagnitude, IsInteger, IsBinding}
-use Rattle.command_words.specs.Words.{plain_words}
-use Rattle.command_words.specs.Evaluations.{HasPlain, AsksFor}
+use Rattle.command_words.specs.Evaluations.{HasPlain}
 use Rattle.command_words.specs.declared.binding.Binding.{Binding}
 use Rattle.command_words.specs.declared.binding.Binding.TheVariants.{Parameter, Table}
 use Rattle.command_words.specs.declared.evaluation.Evaluation.{Evaluation}
@@ -84,20 +83,3 @@ one_plain plain e f p q =
     let bindings : e.bindings ≡ f.bindings = one_bindings p.bindings e.bindings f.bindings p.bound (subst (λ ws. AllZip IsBinding ws f.bindings) (sym behind) q.bound) in
     ap (λ (name : List ℕ). record { program = name; bindings = e.bindings }) program
     ∙ ap (λ (all : List Binding). record { program = f.program; bindings = all }) bindings
-
-pub one_evaluation : (words : List (List ℕ)) (e f : Evaluation) → AsksFor words e → AsksFor words f → e ≡ f
-one_evaluation words e f p q =
-    let commands : codes "eval" ∷ p.behind ≡ codes "eval" ∷ q.behind = sym p.command ∙ q.command in
-    let behind : p.behind ≡ q.behind = cc in
-    let plains : Some p.plain ≡ Some q.plain = sym p.plain_are ∙ (ap plain_words behind ∙ q.plain_are) in
-    let plain : p.plain ≡ q.plain = cc in
-    one_plain p.plain e f p.asks (subst (λ ws. HasPlain ws f) (sym plain) q.asks)
-
--- what the words behind `eval` ask for
-pub has_plain : (words behind plain : List (List ℕ)) (e : Evaluation) → words ≡ codes "eval" ∷ behind → plain_words behind ≡ Some plain → AsksFor words e → HasPlain plain e
-has_plain words behind plain e command plain_are asks =
-    let commands : codes "eval" ∷ asks.behind ≡ codes "eval" ∷ behind = sym asks.command ∙ command in
-    let same : asks.behind ≡ behind = cc in
-    let plains : Some asks.plain ≡ Some plain = sym asks.plain_are ∙ (ap plain_words same ∙ plain_are) in
-    let both : asks.plain ≡ plain = cc in
-    subst (λ ws. HasPlain ws e) both asks.asks

@@ -1,15 +1,13 @@
-//! The words of `eval`.
+//! What plain words ask to evaluate.
 
-ghost use Rattle.std.specs.Prelude.{◌≡◌, ◌∷◌, codes, IfOk, IfSome, IfNone, map};
+ghost use Rattle.std.specs.Prelude.{IfOk, IfSome, IfNone, map};
 ghost use Rattle.std.specs.List.{AllZip};
 ghost use Rattle.command_words.specs.Bindings.{IsBinding};
-ghost use Rattle.command_words.specs.Words.{texts};
-ghost use Rattle.command_words.specs.Evaluations.{HasPlain, AsksFor};
+ghost use Rattle.command_words.specs.Evaluations.{HasPlain};
 ghost use Rattle.command_words.specs.declared.evaluation.Evaluation.{Evaluation as Asked};
 
 use crate::Binding;
 use crate::binding::{binding_of, name};
-use crate::plain::plain_words;
 use az_lin::{List, Name};
 use std::alloc::{AllocError, Global};
 
@@ -48,31 +46,6 @@ pub(crate) fn of_plain(alloc: Global, plain: &[&str]) -> Result<Option<Evaluatio
             let program = name(alloc, program)?;
             Ok(Some(Evaluation { program, bindings }))
         }
-        None => Ok(None),
-    }
-}
-
-/// The words behind `eval`.
-fn behind_eval(words: &[String]) -> Option<&[String]>
-    ensures found { IfSome result (λ behind. texts words.now ≡ codes "eval" ∷ texts behind.now) }
-    ensures none { IfNone result ((behind : _) → texts words.now ≡ codes "eval" ∷ behind → ⊥) }
-{
-    match words {
-        [command, behind @ ..] if command.as_str() == "eval" => Some(behind),
-        _ => None,
-    }
-}
-
-/// What the words ask to evaluate, or `None` where they ask for no evaluation.
-pub fn evaluation_of(alloc: Global, words: &[String]) -> Result<Option<Evaluation>, AllocError>
-    ensures found { IfOk result (λ found. IfSome found (λ evaluation. AsksFor (texts words.now) evaluation)) }
-    ensures none { IfOk result (λ found. IfNone found ((evaluation : Asked) → AsksFor (texts words.now) evaluation → ⊥)) }
-{
-    let Some(behind) = behind_eval(words) else {
-        return Ok(None);
-    };
-    match plain_words(alloc, behind)? {
-        Some(plain) => of_plain(alloc, plain.as_slice()),
         None => Ok(None),
     }
 }

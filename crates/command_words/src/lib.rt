@@ -1,7 +1,6 @@
 //! The words of the command line, by their grammar.
 //!
-//! `specs/Requests.antt` says which words ask for what; no others do. `specs/Evaluations.antt` says it of
-//! evaluations alone.
+//! `specs/Requests.antt` says which words ask for what; no others do.
 #![tactic(auto)]
 
 mod binding;
@@ -9,9 +8,8 @@ mod count;
 mod evaluation;
 mod integer;
 mod line;
-mod plain;
 mod request;
 
 pub use binding::Binding;
-pub use evaluation::{Evaluation, evaluation_of};
+pub use evaluation::Evaluation;
 pub use request::{Request, request_of};

@@ -1,16 +1,17 @@
 use Rattle.command_words.specs.Words.{texts}
-use Rattle.std.specs.Prelude.{Some, Ok}
-use Rattle.std.proofs.Common.{subst, sym, rules}
-use Rattle.session_state.proofs.Ended.{same_files, done_or_memory}
-use Rattle.alphaz_cli.proofs.OneRun.{not_both_run}
-use Rattle.alphaz_cli.specs.Evaluation.{run}
+use Rattle.alphaz_cli.proofs.Ran.{same_files, still_stands, done_or_memory}
 use Rattle.alphaz_cli.proofs.run.alphaz.Goals as goal
 
 pub returns-clause-files : goal.returns-clause-files
-returns-clause-files g c = same_files (run (texts c.args.words.now) (g.D.Desk.seen c.args.desk.now).files) _ _ c.run-ending.result c.run-ending.ensures
+returns-clause-files g c = λ none.
+    same_files (g.D.Desk.seen c.args.desk.now) (g.D.Desk.seen c.run-ending.new.desk) (texts c.args.words.now) c.run-ending.result c.run-ending.ensures none
+
+pub returns-clause-others : goal.returns-clause-others
+returns-clause-others g c = λ name others.
+    still_stands (g.D.Desk.seen c.args.desk.now) (g.D.Desk.seen c.run-ending.new.desk) name (texts c.args.words.now) c.run-ending.result c.run-ending.ensures others
 
 pub returns-clause-complete : goal.returns-clause-complete
-returns-clause-complete g c = λ told listing is runs honest.
-    let ended = rw is at c.run-ending.ensures in
-    rw c.status.ensures (done_or_memory (run (texts c.args.words.now) (Some told)) _ _ c.run-ending.result ended
-    (λ refusal refused. not_both_run (texts c.args.words.now) told listing refusal runs refused) honest)
+returns-clause-complete g c = λ told request is asks carried honest.
+    rw c.status.ensures (
+    done_or_memory (g.D.Desk.seen c.args.desk.now) (g.D.Desk.seen c.run-ending.new.desk) told is honest (texts c.args.words.now) request c.run-ending.result c.run-ending.ensures
+    asks carried)

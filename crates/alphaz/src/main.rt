@@ -1,17 +1,9 @@
-//! `alphaz`: evaluates systems of affine equations over polyhedral domains.
+//! `alphaz`: evaluates systems of affine equations over polyhedral domains, and carries out scripts.
 //!
-//! `specs/Evaluation.antt` says how a run ends (`EndsAs`), and what it says.
+//! The call behind it, `alphaz_cli::alphaz`, says what is answered and said.
 #![tactic(auto)]
 
-mod bound;
-#[cfg(test)]
-mod cases;
-mod eval;
-mod run;
-mod status;
-#[cfg(test)]
-mod tests;
-
+use alphaz_cli::{OpenGate, alphaz};
 use az_desk::HostDesk;
 use std::env;
 use std::process::ExitCode;
@@ -33,5 +25,5 @@ fn main(rt: HostRuntime) -> ExitCode {
     let mut desk = HostDesk::new(&rt);
     let words = words.as_slice();
     let words = if words.is_empty() { words } else { &words[1..] };
-    ExitCode::from(run::alphaz(alloc, words, &mut desk).code)
+    ExitCode::from(alphaz(&rt, alloc, words, &mut desk, &OpenGate).code)
 }

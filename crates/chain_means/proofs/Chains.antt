@@ -92,5 +92,5 @@ chains_hold scope chains z once = (
   λ holds. All-from_recursion (ChainHolds scope z) chains
       (chains_of scope z once chains (recursion_from_All (IsAtLeastZero z) (map (row_of scope) (of_chains chains)) holds)),
   λ all. All-from_recursion (IsAtLeastZero z) (map (row_of scope) (of_chains chains))
-      (from_chains scope z once chains (recursion_from_All (ChainHolds scope z) chains all))
+      (from_chains scope z once chains (recursion_from_All (ChainHolds scope z) chains all)),
 )

@@ -14,8 +14,7 @@ different = ((λ same. true≢false (ap (λ name. bytes_eq name (codes "i")) sam
 pub interval_holds : IntervalHolds
 interval_holds n i =
     let z = n ∷ i ∷ [] in
-    let law = chains_hold columns (interval ∷ []) z different in
-    (
+    let law = chains_hold columns (interval ∷ []) z different in (
       λ holds.
           let links = (recursion_from_All (ChainHolds columns z) (interval ∷ []) (law.0 holds)).0 in
           let low = links.0 in
@@ -24,5 +23,5 @@ interval_holds n i =
       λ within.
           let low = within.0 in
           let high = within.1 in
-          law.1 (All-from_recursion (ChainHolds columns z) (interval ∷ []) ((omega (arith, ints, low), (omega (arith, ints, high), tt)), tt))
+          law.1 (All-from_recursion (ChainHolds columns z) (interval ∷ []) ((omega (arith, ints, low), (omega (arith, ints, high), tt)), tt)),
     )

@@ -19,7 +19,7 @@ named name = record { negative = false; factor = 1; name = Some name } ∷ []
 abbrev pub interval : Chain
 interval = record {
   first = number 0;
-  links = record { relation = AtMost; side = named (codes "i") } ∷ record { relation = Below; side = named (codes "N") } ∷ []
+  links = record { relation = AtMost; side = named (codes "i") } ∷ record { relation = Below; side = named (codes "N") } ∷ [];
 }
 
 abbrev pub IntervalHolds : Type 0

@@ -1,5 +1,5 @@
 -- A list that a loop goes through by value: what was taken, what is taken now, and what is left.
-use Rattle.std.proofs.Common.{◌≡◌, ℕ, List, ◌∷◌, ◌++◌, ◌<◌, ◌+◌, length, get_or, take, drop, sym, ap, ◌∙◌}
+use Rattle.std.proofs.Common.{◌≡◌, List, ◌∷◌, ◌++◌, ◌<◌, ◌+◌, length, get_or, take, drop, sym, ap, ◌∙◌}
 use Rattle.std.proofs.lemmas.List.{map-id, take-append-drop}
 use Rattle.std.specs.Prelude.{map}
 use Rattle.domain_check.proofs.Loops.{drop_next}

@@ -1,5 +1,4 @@
 -- A program is evaluated or refused, and not both.
-use Rattle.std.proofs.Common.{ℕ, List}
 use Rattle.std.specs.Prelude.{Some}
 use Rattle.std.specs.FinMap.{empty}
 use Rattle.az_ast.specs.System.{System}
@@ -10,7 +9,7 @@ use Rattle.command_words.specs.declared.binding.Binding.TheVariants.{Parameter, 
 use Rattle.command_words.specs.declared.evaluation.Evaluation.{Evaluation}
 use Rattle.data_commands.proofs.Once.{not_both_rows, one_read as one_read_input, not_both_read as not_both_read_input}
 use Rattle.data_commands.specs.Outputs.{output_rows}
-use Rattle.session_state.proofs.Once.{IsOne, NotBoth, one_then, not_both_then, one_answer, not_both_answers, one_setting, not_both_setting, one_each, not_both_each}
+use Rattle.session_state.proofs.Once.{IsOne, NotBoth, not_both_then, one_answer, not_both_answers, one_setting, not_both_setting, one_each, not_both_each}
 use Rattle.session_state.specs.Settings.{Settings, unset}
 use Rattle.session_state.specs.Steps.{◌>>=◌, each_in}
 use Rattle.alphaz_cli.specs.Bound.{set_bound, read_bound}

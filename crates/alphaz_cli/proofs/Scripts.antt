@@ -1,5 +1,5 @@
 -- A script's tasks, from the answers of the calls.
-use Rattle.std.proofs.Common.{◌≡◌, ℕ, List, [], ◌∷◌, ◌++◌, length, refl, sym, ap, subst, ◌∙◌}
+use Rattle.std.proofs.Common.{◌≡◌, ℕ, List, [], ◌∷◌, ◌++◌, length, sym, ap, subst, ◌∙◌}
 use Rattle.std.proofs.lemmas.List.{map-append, length-map}
 use Rattle.std.specs.Prelude.{Option, Some, None, map, Err}
 use Rattle.script_files.specs.Places.{IsSyntaxStop}
@@ -7,7 +7,7 @@ use Rattle.script_grammar.specs.declared.command.Command.{Command}
 use Rattle.session_state.specs.Steps.{TakesAlone}
 use Rattle.session_state.specs.declared.stop.Stop.{Stop}
 use Rattle.session_state.specs.declared.stop.Stop.TheVariants.{Refused, Fault, Memory}
-use Rattle.alphaz_cli.specs.Scripts.{FirstOpen, tasks_in}
+use Rattle.alphaz_cli.specs.Scripts.{tasks_in}
 use Rattle.alphaz_cli.specs.Tasks.{task_of}
 use Rattle.alphaz_cli.specs.declared.task.Task.{Task}
 

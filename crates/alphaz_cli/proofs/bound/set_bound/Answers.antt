@@ -1,4 +1,4 @@
-use Rattle.std.proofs.Common.{◌≡◌, List, ℕ, ℤ, rules, subst, sym, FitsSigned, to_z, of_z}
+use Rattle.std.proofs.Common.{List, ℕ, ℤ, rules, subst, sym, FitsSigned, to_z, of_z}
 use Rattle.std.specs.Int.{w128}
 use Rattle.std.proofs.lemmas.Int.{to_z-of_z}
 use Rattle.command_words.specs.declared.binding.Binding.{Binding}

@@ -1,4 +1,4 @@
-use Rattle.std.proofs.Common.{◌≡◌, rules, arith, length-drop}
+use Rattle.std.proofs.Common.{◌≡◌, arith, length-drop}
 use Rattle.std.specs.Prelude.{Err}
 use Rattle.command_listing.proofs.Rest.{handed_on, one_more, stops_here, all_ran}
 use Rattle.alphaz_cli.specs.Tasks.{tasks}

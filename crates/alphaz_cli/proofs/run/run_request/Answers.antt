@@ -1,6 +1,5 @@
 use Rattle.std.proofs.Common.{List, ℕ, subst}
-use Rattle.session_state.specs.Endings.{Ends}
-use Rattle.alphaz_cli.specs.Runs.{usage, HasWorkers, RunsScript}
+use Rattle.alphaz_cli.specs.Runs.{HasWorkers, RunsScript}
 use Rattle.alphaz_cli.proofs.run.run_request.Goals as goal
 
 pub run_script-requires-clause-some : goal.run_script-requires-clause-some

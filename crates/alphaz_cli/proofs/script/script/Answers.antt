@@ -1,5 +1,5 @@
 use Rattle.std.proofs.Common.{◌≡◌, List, ℕ, rules, subst, sym}
-use Rattle.std.specs.Prelude.{Ok, Err}
+use Rattle.std.specs.Prelude.{Err}
 use Rattle.script_files.proofs.Stops.{has_tokens}
 use Rattle.script_files.specs.Commands.{commands_in}
 use Rattle.script_files.specs.Places.{HasTokens}

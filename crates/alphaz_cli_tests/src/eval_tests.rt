@@ -5,7 +5,9 @@ use crate::runs::{First, USAGE, desk, ended, fail_all, run, run_all};
 use alphaz_cli::{OpenGate, Outcome, alphaz};
 use az_ast::Reason;
 use az_lin::Limit;
+use std::alloc::Global;
 use std::test::Fail;
+use std::thread::Threads;
 use table_data::RowKind;
 
 #[test]
@@ -17,14 +19,14 @@ fn evaluations_are_answered(rt: HostRuntime) -> Result<(), Fail> {
         (TABLES, 12),
         (REFUSED, 8),
     ] {
-        assert_eq!(rt; run_all(&rt, cases, First::Words)?, Ok(count));
+        assert_eq!(rt; run_all(&rt, rt.alloc(), cases, First::Words)?, Ok(count));
     }
     let texts = First::Text {
         name: "p.ab",
         words: "eval p.ab",
     };
-    assert_eq!(rt; run_all(&rt, TEXTS, texts)?, Ok(29));
-    assert_eq!(rt; fail_all(&rt, FAILING)?, Ok(14));
+    assert_eq!(rt; run_all(&rt, rt.alloc(), TEXTS, texts)?, Ok(29));
+    assert_eq!(rt; fail_all(&rt, rt.alloc(), FAILING)?, Ok(14));
     Ok(())
 }
 
@@ -38,22 +40,27 @@ fn no_words_are_answered(rt: HostRuntime) -> Result<(), Fail> {
 }
 
 /// Runs the words over the files, of which a call may fail.
-fn answered(rt: &HostRuntime, words: &str, failure: Option<(u64, usize)>) -> Result<Outcome, Fail> {
-    let mut desk = desk(rt.alloc(), "p.ab", &[], failure)?;
-    Ok(run(rt, words, &mut desk)?.answer)
+fn answered<R: Threads + Sync>(
+    rt: &R,
+    alloc: Global,
+    words: &str,
+    failure: Option<(u64, usize)>,
+) -> Result<Outcome, Fail> {
+    let mut desk = desk(alloc, "p.ab", &[], failure)?;
+    Ok(run(rt, alloc, words, &mut desk)?.answer)
 }
 
 #[test]
 fn answers_have_their_values(rt: HostRuntime) -> Result<(), Fail> {
-    match answered(&rt, "eval ramp.ab N=1", None)? {
+    match answered(&rt, rt.alloc(), "eval ramp.ab N=1", None)? {
         Outcome::Command(Reason::Unknown(name)) => assert_eq!(rt; name.as_str(), "N"),
         _ => assert!(rt; false),
     }
-    match answered(&rt, "eval prefix.ab N=3 A@a.csv", Some((1, 0)))? {
+    match answered(&rt, rt.alloc(), "eval prefix.ab N=3 A@a.csv", Some((1, 0)))? {
         Outcome::ReadFault(name) => assert_eq!(rt; name.as_str(), "a.csv"),
         _ => assert!(rt; false),
     }
-    match answered(&rt, "eval prefix.ab N=3 A@one.csv", None)? {
+    match answered(&rt, rt.alloc(), "eval prefix.ab N=3 A@one.csv", None)? {
         Outcome::BadTable(name, 0, RowKind::Missing(point)) => {
             assert_eq!(rt; name.as_str(), "A");
             assert_eq!(rt; point.as_slice(), [1].as_slice());
@@ -65,7 +72,7 @@ fn answers_have_their_values(rt: HostRuntime) -> Result<(), Fail> {
 
 #[test]
 fn a_chain_has_its_points(rt: HostRuntime) -> Result<(), Fail> {
-    let Outcome::Cycle(chain) = answered(&rt, "eval back.ab", None)? else {
+    let Outcome::Cycle(chain) = answered(&rt, rt.alloc(), "eval back.ab", None)? else {
         assert!(rt; false);
         return Ok(());
     };
@@ -89,7 +96,7 @@ fn long_files_are_refused(rt: HostRuntime) -> Result<(), Fail> {
         ("run long.azs", "long.azs"),
     ] {
         let mut desk = desk(alloc, name, text.as_slice(), None)?;
-        let status = run(&rt, words, &mut desk)?;
+        let status = run(&rt, alloc, words, &mut desk)?;
         assert!(rt;
             ended(&status, &desk, "11→alphaz: 11 Limit File\n")?,
             "{words}"

@@ -6,6 +6,7 @@ use az_desk::{Failure, MemoryDesk};
 use az_lin::{List, Name};
 use std::alloc::Global;
 use std::test::Fail;
+use std::thread::Threads;
 
 pub(crate) const USAGE: &str =
     "alphaz: 2 usage: eval PROGRAM [NAME=N or NAME@FILE]... ; run SCRIPT [--workers K] ; check SCRIPT CERTIFICATE ; make N [--workers K]\n";
@@ -41,8 +42,12 @@ pub(crate) fn desk(
 }
 
 /// Runs the words, which stand with a space between them.
-pub(crate) fn run(rt: &HostRuntime, words: &str, desk: &mut MemoryDesk) -> Result<Status, Fail> {
-    let alloc = rt.alloc();
+pub(crate) fn run<R: Threads + Sync>(
+    rt: &R,
+    alloc: Global,
+    words: &str,
+    desk: &mut MemoryDesk,
+) -> Result<Status, Fail> {
     let mut owned = Vec::new(alloc);
     for word in words.split(' ') {
         owned.push(String::from_str(alloc, word)?)?;
@@ -70,8 +75,9 @@ pub(crate) enum First {
 }
 
 /// Runs all cases, and gives their number, or what stands first in the one that ended in another way.
-pub(crate) fn run_all(
-    rt: &HostRuntime,
+pub(crate) fn run_all<R: Threads + Sync>(
+    rt: &R,
+    alloc: Global,
     cases: &'static str,
     first: First,
 ) -> Result<Result<u32, &'static str>, Fail> {
@@ -84,8 +90,8 @@ pub(crate) fn run_all(
             First::Words => (said, "s.azs", ""),
             First::Text { name, words } => (words, name, said),
         };
-        let mut desk = desk(rt.alloc(), name, text.as_bytes(), None)?;
-        let status = run(rt, words, &mut desk)?;
+        let mut desk = desk(alloc, name, text.as_bytes(), None)?;
+        let status = run(rt, alloc, words, &mut desk)?;
         if !ended(&status, &desk, wanted)? {
             return Ok(Err(said));
         }
@@ -103,8 +109,9 @@ fn failing(case: &str) -> Option<(&str, (u64, usize), &str)> {
 }
 
 /// Runs all cases, of each of which a call fails, and gives their number, or the first that ended in another way.
-pub(crate) fn fail_all(
-    rt: &HostRuntime,
+pub(crate) fn fail_all<R: Threads + Sync>(
+    rt: &R,
+    alloc: Global,
     cases: &'static str,
 ) -> Result<Result<u32, &'static str>, Fail> {
     let mut count = 0u32;
@@ -112,8 +119,8 @@ pub(crate) fn fail_all(
         let Some((words, failure, wanted)) = failing(case) else {
             break;
         };
-        let mut desk = desk(rt.alloc(), "s.azs", &[], Some(failure))?;
-        let status = run(rt, words, &mut desk)?;
+        let mut desk = desk(alloc, "s.azs", &[], Some(failure))?;
+        let status = run(rt, alloc, words, &mut desk)?;
         if !ended(&status, &desk, wanted)? {
             return Ok(Err(case));
         }

@@ -52,15 +52,18 @@ fn answered<R: Threads + Sync>(
 
 #[test]
 fn answers_have_their_values(rt: HostRuntime) -> Result<(), Fail> {
-    match answered(&rt, rt.alloc(), "eval ramp.ab N=1", None)? {
+    let outcome = answered(&rt, rt.alloc(), "eval ramp.ab N=1", None)?;
+    match &outcome {
         Outcome::Command(Reason::Unknown(name)) => assert_eq!(rt; name.as_str(), "N"),
         _ => assert!(rt; false),
     }
-    match answered(&rt, rt.alloc(), "eval prefix.ab N=3 A@a.csv", Some((1, 0)))? {
+    let outcome = answered(&rt, rt.alloc(), "eval prefix.ab N=3 A@a.csv", Some((1, 0)))?;
+    match &outcome {
         Outcome::ReadFault(name) => assert_eq!(rt; name.as_str(), "a.csv"),
         _ => assert!(rt; false),
     }
-    match answered(&rt, rt.alloc(), "eval prefix.ab N=3 A@one.csv", None)? {
+    let outcome = answered(&rt, rt.alloc(), "eval prefix.ab N=3 A@one.csv", None)?;
+    match &outcome {
         Outcome::BadTable(name, 0, RowKind::Missing(point)) => {
             assert_eq!(rt; name.as_str(), "A");
             assert_eq!(rt; point.as_slice(), [1].as_slice());

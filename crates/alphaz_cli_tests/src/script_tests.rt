@@ -67,6 +67,12 @@ fn certificates_are_written(rt: HostRuntime) -> Result<(), Fail> {
     assert!(rt;
         plain.contents().file("x.cert") == Some("alphaz-certificate 2\nKeep X X\n".as_bytes())
     );
+    Ok(())
+}
+
+#[test]
+fn a_part_of_a_certificate_stands_where_writing_fails(rt: HostRuntime) -> Result<(), Fail> {
+    let alloc = rt.alloc();
     let mut failing = desk(alloc, "s.azs", &[], Some((7, 5)))?;
     let status = run(&rt, alloc, "run cert.azs", &mut failing)?;
     assert_eq!(rt; status.code, 4);

@@ -1,8 +1,8 @@
-mod Alongside
-mod Placed
+pub mod Alongside
+pub mod Placed
 mod Progress
-mod Falsity
-mod Judged
+pub mod Falsity
+pub mod Judged
 pub mod OneVerdict
-mod Accepted
+pub mod Accepted
 mod Promised

@@ -21,7 +21,7 @@ fn all_false(checked: &Checked, mapping: &Mapping)
 }
 
 /// Copies of both, certified.
-pub(crate) fn certified(
+pub fn certified_map(
     alloc: Global,
     checked: &Checked,
     mapping: &Mapping,

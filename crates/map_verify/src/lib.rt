@@ -12,6 +12,8 @@ mod step_count;
 mod verdict;
 mod verification;
 
+pub use certified::certified_map;
 pub use fault::{BadCertificate, VerifyFault};
+pub use ready::{Unready, ready_formulas};
 pub use verdict::Verdict;
 pub use verification::verify;

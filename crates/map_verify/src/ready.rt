@@ -17,7 +17,7 @@ use target_map::Mapping;
 
 /// Why no case of a formula is looked at.
 #[derive(Debug, Clone, Copy, PartialEq, Eq)]
-pub(crate) enum Unready {
+pub enum Unready {
     Entry,
     TooManyCases,
     Memory,
@@ -81,7 +81,7 @@ fn are_few(formulas: &[Stated]) -> bool
 }
 
 /// All formulas, with few enough cases each. `Entry` is found before the cases are counted.
-pub(crate) fn ready_formulas(
+pub fn ready_formulas(
     alloc: Global,
     checked: &Checked,
     mapping: &Mapping,

@@ -6,7 +6,7 @@ ghost use Rattle.map_verify.specs.Verdicts.{Verifies, IsRefuted};
 ghost use Rattle.map_verify.specs.Formulas.{AreReady, formulas};
 ghost use Rattle.target_map.specs.Settings.{IsComplete};
 
-use crate::certified::certified;
+use crate::certified::certified_map;
 use crate::decided::{Outcome, decide_formulas};
 use crate::ready::{Unready, ready_formulas};
 use crate::{Verdict, VerifyFault};
@@ -31,7 +31,7 @@ fn yes(
     ensures certified { IfOk result (IsCertifiedIfYes checked.now mapping.now) }
 {
     let certificate = Certificate { version: 2, proved };
-    let certified = certified(alloc, checked, mapping)?;
+    let certified = certified_map(alloc, checked, mapping)?;
     Ok(Verdict::Yes(certified, certificate))
 }
 

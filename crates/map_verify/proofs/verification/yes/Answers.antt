@@ -5,8 +5,8 @@ use Rattle.map_verify.proofs.Falsity.{each_false, refuted_proved}
 use Rattle.map_verify.proofs.Promised.{yes_is_accepted}
 use Rattle.map_verify.proofs.verification.yes.Goals as goal
 
-pub certified-requires-clause-each : goal.certified-requires-clause-each
-certified-requires-clause-each c =
+pub certified_map-requires-clause-each : goal.certified_map-requires-clause-each
+certified_map-requires-clause-each c =
     let all = formulas c.args.checked.now c.args.mapping.now in
     let certificate : Certificate = record { version = 2; proved = c.args.proved } in
     each_false 2 all c.args.proved (refuted_proved all certificate c.requires.refuted)
